@@ -1,0 +1,5 @@
+-- Laws that every room above may cite, and the theorems of this room.
+pub mod Tests
+pub mod Laws
+pub mod Computed
+pub mod Decoding

@@ -1,0 +1,6 @@
+-- The definitions that the promises of this room cite.
+pub mod Pick
+pub mod Answer
+pub mod Control
+pub mod Message
+pub mod Refusal
