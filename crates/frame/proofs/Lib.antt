@@ -3,3 +3,7 @@ pub mod Tests
 pub mod Laws
 pub mod Computed
 pub mod Decoding
+pub mod ControlBytes
+pub mod Messages
+pub mod Numbers
+pub mod Settled

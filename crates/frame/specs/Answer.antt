@@ -1,8 +1,6 @@
 -- What a call gives back (01, "Numbers given back"): its values, or one of the paper's numbers and nothing else.
 use Prim.Native.Nat.{ℕ}
-use mathlib.Core.Path.{_≡_}
-use mathlib.Core.Logic.{_⊎_}
-use mathlib.Core.List.{List, [], _∷_}
+use mathlib.Core.List.{List, List·Memᴰ}
 use lib.Dec.{eqb}
 use Rattle.frame.specs.Pick.{pick}
 
@@ -17,8 +15,7 @@ unless n v = pick (eqb n 0) (gives v) (refuses n)
 
 -- n is one of the numbers
 abbrev pub Among : ℕ → List ℕ → Type 0
-Among n [] = ⊥
-Among n (k ∷ ks) = (n ≡ k) ⊎ Among n ks
+Among n ks = List·Memᴰ n ks
 
 -- "A number outside a call's list is not given by that call."
 abbrev pub Lists : {A : Type 0} → List ℕ → Answer A → Type 0

@@ -4,3 +4,4 @@ pub mod Answer
 pub mod Control
 pub mod Message
 pub mod Refusal
+pub mod Promises

@@ -5,9 +5,9 @@ ghost use Prim.Native.Nat.{_/_, _%_};
 ghost use Rattle.frame.specs.Message.{checked, checkOf, informationIn, messageRefusal};
 
 // The least and the greatest size of a message.
-pub const LEAST: usize = 5;
+pub const LEAST_SIZE: usize = 5;
 
-pub const MOST: usize = 253;
+pub const MOST_SIZE: usize = 253;
 
 // The places of a message's fields; the data follow, 0 to 248 bytes.
 pub const LENGTH_AT: usize = 0;
@@ -71,10 +71,10 @@ pub fn message_refusal(message: &[u8]) -> u8
     ensures { λ r. ⌜ r ≡ messageRefusal (now (message .entry)) ⌝ }
 {
     let size = message.len();
-    if size < LEAST {
+    if size < LEAST_SIZE {
         return number::INFORMATION;
     }
-    if MOST < size {
+    if MOST_SIZE < size {
         return number::INFORMATION;
     }
     let length = message[LENGTH_AT] as usize;
