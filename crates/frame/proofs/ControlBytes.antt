@@ -25,7 +25,7 @@ unfolding encodeOf countsRefusal decodeOf known byteOf
 points = (refl, refl, refl, refl, refl, refl)
 
 -- a count that is not refused is at most 7
-count-small : (n : ℕ) → countRefusal n ≡ 0 → n ≤ 7
+pub count-small : (n : ℕ) → countRefusal n ≡ 0 → n ≤ 7
 count-small n e = ltb-false 7 n (pick-second (ltb 7 n) 9 0 0 e (λ z. omega arith) .0)
 
 -- a byte of each kind that carries a count, by its low bits

@@ -1,0 +1,54 @@
+-- The promises of NRZI, kept.
+-- Assumes nothing.
+use Prim.Native.Nat.{ℕ, _+_, _*_, _≤_}
+use mathlib.Core.Path.{_≡_, _∙_, refl, sym, ap}
+use mathlib.Core.Bool.{Bool, true, false}
+use mathlib.Core.List.{List, [], _∷_, _++_, List·Memᴰ·head as here, List·Memᴰ·tail as there}
+use native.Mathlib.Omega.{arith}
+use lib.Dec.{eqb, ltb}
+use lib.ListN.{length, take, drop, length-append, length-drop}
+use lib.Seq.{take-at, drop-at, length-take-le}
+use borrow.Author.Tests.{eq-eqb}
+use Rattle.frame.proofs.Laws.{pick-among, then-among, unless-lists}
+use Rattle.line.specs.Bits.{bitsOf, bytesOf}
+use Rattle.line.specs.Packed.{bytesFor, over}
+use Rattle.line.specs.Read.{bitCountRefusal}
+use Rattle.line.specs.Nrzi.{coding, reached, nrziRefusal, codeOf, codeBytes, coded}
+use Rattle.line.specs.NrziPromises.{NrziThereAndBack, NrziBits, NrziNumbers, NrziLosesNothing}
+use Rattle.line.specs.declared.nrzi.Coded.{Coded}
+use Rattle.line.specs.declared.nrzi.Coded.the-variants.{Level, Refused}
+use Rattle.line.proofs.BitLaws.{length-bitsOf, bits-back}
+use Rattle.line.proofs.Levels.{bits-again, levels-again, length-coding}
+use Rattle.line.proofs.Laid.{taken}
+
+pub nrzi-there-and-back : NrziThereAndBack
+nrzi-there-and-back l bs = (bits-again l bs, levels-again l bs)
+
+pub nrzi-bits : NrziBits
+unfolding codeBytes over
+nrzi-bits back l input bits out e =
+    let c = coding back l (take bits (bitsOf input)) in
+    let fits = taken bits (length input) (length out) e in
+    let size : length c ≡ bits =
+    length-coding back l (take bits (bitsOf input)) ∙ length-take-le bits (bitsOf input) (omega (arith, length-bitsOf input)) in
+    let whole : length (over c (bitsOf out)) ≡ 8 * length out =
+    omega (arith, length-append c (drop (length c) (bitsOf out)), length-drop (length c) (bitsOf out), length-bitsOf out) in
+    let all : bitsOf (bytesOf (length out) (over c (bitsOf out))) ≡ over c (bitsOf out) = bits-back (length out) (over c (bitsOf out)) whole in
+    rw (eq-eqb _ _ e) (
+      ap (λ (b : List Bool). take bits b) all ∙ take-at c (drop (length c) (bitsOf out)) bits size,
+      ap (λ (b : List Bool). drop bits b) all ∙ drop-at c (drop (length c) (bitsOf out)) bits size ∙ ap (λ (n : ℕ). drop n (bitsOf out)) size,
+    )
+
+pub nrzi-numbers : NrziNumbers
+unfolding codeOf nrziRefusal bitCountRefusal
+nrzi-numbers back l input bits room =
+    unless-lists (reached back l (take bits (bitsOf input)))
+    (then-among (2 ∷ []) (11 ∷ [])
+    (pick-among (ltb 8192 bits) (there (here refl)) (pick-among (ltb (8 * length input) bits) (there (here refl)) (here refl)))
+    (pick-among (ltb room (bytesFor bits)) (there (here refl)) (here refl)))
+
+pub nrzi-loses-nothing : NrziLosesNothing
+nrzi-loses-nothing (Level l) (Level k) e = let same : l ≡ k = cc in ap Level same
+nrzi-loses-nothing (Level l) (Refused n) e = cc
+nrzi-loses-nothing (Refused n) (Level k) e = cc
+nrzi-loses-nothing (Refused n) (Refused k) e = let same : n ≡ k = cc in ap Refused same

@@ -1,0 +1,29 @@
+-- What is promised of NRZI beside each function's contract. The proofs stand in proofs/NrziKept.antt.
+use Prim.Native.Nat.{ℕ, _<_}
+use mathlib.Core.Path.{_≡_}
+use mathlib.Core.Bool.{Bool, true, false}
+use mathlib.Core.List.{List, [], _∷_}
+use lib.ListN.{length, getD, take, drop}
+use Rattle.frame.specs.Answer.{Lists}
+use Rattle.line.specs.Bits.{bitsOf}
+use Rattle.line.specs.Nrzi.{coding, nrziRefusal, codeOf, codeBytes, coded}
+use Rattle.line.specs.declared.nrzi.Coded.{Coded}
+
+-- decode after encode and encode after decode give back what went in
+abbrev pub NrziThereAndBack : Type 0
+NrziThereAndBack = (l : Bool) (bs : List Bool) → (coding true l (coding false l bs) ≡ bs) × (coding false l (coding true l bs) ≡ bs)
+
+-- the lent output after a call that is not refused: its first bits are the coded ones, and "the other bits of the lent output stay"
+abbrev pub NrziBits : Type 0
+NrziBits =
+    (back l : Bool) (input : List ℕ) (bits : ℕ) (out : List ℕ) → nrziRefusal bits (length input) (length out) ≡ 0
+    → (take bits (bitsOf (codeBytes back l input bits out)) ≡ coding back l (take bits (bitsOf input)))
+    × (drop bits (bitsOf (codeBytes back l input bits out)) ≡ drop bits (bitsOf out))
+
+-- "NRZI: 2, 11"
+abbrev pub NrziNumbers : Type 0
+NrziNumbers = (back l : Bool) (input : List ℕ) (bits room : ℕ) → Lists (2 ∷ 11 ∷ []) (codeOf back l input bits room)
+
+-- the definition that lists an answer's number and values loses nothing
+abbrev pub NrziLosesNothing : Type 0
+NrziLosesNothing = (a b : Coded) → coded a ≡ coded b → a ≡ b

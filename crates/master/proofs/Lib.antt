@@ -1,0 +1,6 @@
+-- The theorems of this room.
+pub mod Keeps
+pub mod Blank
+pub mod Numbers
+pub mod Settled
+pub mod Worked

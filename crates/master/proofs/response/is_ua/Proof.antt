@@ -1,0 +1,74 @@
+-- `master::response::is_ua` meets its contract.
+-- Assumes nothing.
+use Rattle.master.specs.Response.{isUa}
+use borrow.Author.Needs.{needs}
+use Rattle.master.proofs.response.is_ua.Statement.{statement}
+use Rattle.master.proofs.response.is_ua.Tie as tie
+
+enum-told : tie.Need-enum-told
+enum-told c = search needs
+
+enum-told-2 : tie.Need-enum-told-2
+enum-told-2 c = search needs
+
+enum-told-3 : tie.Need-enum-told-3
+enum-told-3 c = search needs
+
+enum-told-4 : tie.Need-enum-told-4
+enum-told-4 c = search needs
+
+enum-told-5 : tie.Need-enum-told-5
+enum-told-5 c = search needs
+
+enum-told-6 : tie.Need-enum-told-6
+enum-told-6 c = search needs
+
+enum-told-7 : tie.Need-enum-told-7
+enum-told-7 c = search needs
+
+returns : tie.Need-returns
+unfolding isUa
+returns c = cc
+
+returns-2 : tie.Need-returns-2
+unfolding isUa
+returns-2 c = cc
+
+returns-3 : tie.Need-returns-3
+unfolding isUa
+returns-3 c = cc
+
+returns-4 : tie.Need-returns-4
+unfolding isUa
+returns-4 c = cc
+
+returns-5 : tie.Need-returns-5
+unfolding isUa
+returns-5 c = cc
+
+returns-6 : tie.Need-returns-6
+unfolding isUa
+returns-6 c = cc
+
+returns-7 : tie.Need-returns-7
+unfolding isUa
+returns-7 c = cc
+
+pub is-ua-spec : {M : Type 1} → statement M
+is-ua-spec =
+    tie.close
+    (tie.spec
+    enum-told
+    enum-told-2
+    enum-told-3
+    enum-told-4
+    enum-told-5
+    enum-told-6
+    enum-told-7
+    returns
+    returns-2
+    returns-3
+    returns-4
+    returns-5
+    returns-6
+    returns-7)

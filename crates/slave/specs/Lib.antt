@@ -1,0 +1,4 @@
+-- The definitions that the promises of this room cite.
+pub mod Slave
+pub mod Step
+pub mod Promises

@@ -1,0 +1,93 @@
+-- What is promised of this room beside each function's contract. The proofs stand in proofs/Keeps, Blank, Numbers, Settled and Worked.
+use Prim.Native.Nat.{ℕ}
+use mathlib.Core.Path.{_≡_}
+use mathlib.Core.List.{List, [], _∷_}
+use Rattle.frame.specs.Answer.{gives, Among, Lists}
+use Rattle.frame.specs.Refusal.{addressRefusal}
+use Rattle.frame.specs.declared.Meaning.{Meaning}
+use Rattle.frame.specs.declared.Meaning.the-variants.{I, Rr, Rnr}
+use Rattle.side.specs.Given.{OneOf, refused}
+use Rattle.side.specs.Side.{fresh}
+use Rattle.side.specs.declared.answer.Change.the-variants.{Same}
+use Rattle.side.specs.declared.answer.Line.{Line}
+use Rattle.side.specs.declared.answer.News.{News}
+use Rattle.slave.specs.Slave.{slaveWrong, blank, doneGiven, takeGiven, makeOf, putOf, takeOf, restartOf, clearOf}
+use Rattle.slave.specs.Step.{responded, stepGiven, stepOf}
+use Rattle.slave.specs.declared.Mode.the-variants.{Nrm}
+use Rattle.slave.specs.declared.Slave.{Slave}
+use Rattle.slave.specs.declared.SlaveDone.{SlaveDone}
+use Rattle.slave.specs.declared.SlaveTake.{SlaveTake}
+use Rattle.slave.specs.declared.step.StepAnswer.{StepAnswer}
+use Rattle.slave.specs.declared.step.SlaveStep.{SlaveStep}
+
+-- number 30 finds nothing wrong
+abbrev pub Right : Slave → Type 0
+Right s = slaveWrong s ≡ 0
+
+-- an accepted making gives a right end, and an end that is right stays right in every call with any arguments
+pub record Keeps : Type 0 where
+  pub make : (a : ℕ) → addressRefusal a ≡ 0 → Right (makeOf a .end)
+  pub put : (s : Slave) (m : List ℕ) → Right s → Right (putOf s m .end)
+  pub take : (s : Slave) (room : ℕ) → Right s → Right (takeOf s room .end)
+  pub step : (s : Slave) (a : ℕ) (f : Meaning) (m : List ℕ) (room : ℕ) → Right s → Right (stepOf s a f m room .end)
+  pub restart : (s : Slave) → Right s → Right (restartOf s .end)
+  pub clear : (s : Slave) → Right s → Right (clearOf s .end)
+
+-- a refused making gives the blank end, which every call refuses with 30
+pub record BlankRefused : Type 0 where
+  pub make : (a : ℕ) → (addressRefusal a ≡ 0 → ⊥) → makeOf a .end ≡ blank
+  pub put : (m : List ℕ) → putOf blank m ≡ refused 30 blank
+  pub take : (room : ℕ) → takeOf blank room ≡ refused 30 blank
+  pub step : (a : ℕ) (f : Meaning) (m : List ℕ) (room : ℕ) → stepOf blank a f m room ≡ refused 30 blank
+  pub restart : restartOf blank ≡ refused 30 blank
+  pub clear : clearOf blank ≡ refused 30 blank
+
+-- "A number outside a call's list is not given by that call."
+pub record Numbers : Type 0 where
+  pub wrong : (s : Slave) → Among (slaveWrong s) (0 ∷ 30 ∷ [])
+  pub make : (a : ℕ) → Lists (8 ∷ []) (makeOf a .answer)
+  pub put : (s : Slave) (m : List ℕ) → Lists (30 ∷ 10 ∷ 12 ∷ 13 ∷ []) (putOf s m .answer)
+  pub take : (s : Slave) (room : ℕ) → Lists (30 ∷ 14 ∷ 11 ∷ []) (takeOf s room .answer)
+  pub step : (s : Slave) (a : ℕ) (f : Meaning) (m : List ℕ) (room : ℕ) → Lists (30 ∷ 11 ∷ 9 ∷ 10 ∷ 12 ∷ 19 ∷ []) (stepOf s a f m room .answer)
+  pub restart : (s : Slave) → Lists (30 ∷ []) (restartOf s .answer)
+  pub clear : (s : Slave) → Lists (30 ∷ []) (clearOf s .answer)
+
+-- any two results that a promise by equation allows are equal
+pub record OneResult : Type 0 where
+  pub done : OneOf doneGiven
+  pub take : OneOf takeGiven
+  pub step : OneOf stepGiven
+
+-- the definitions that list an answer's number and values lose nothing, and those of whole results neither
+pub record LosesNothing : Type 0 where
+  pub responded : (a b : StepAnswer) → responded a ≡ responded b → a ≡ b
+  pub done : (a b : SlaveDone) → doneGiven a ≡ doneGiven b → a ≡ b
+  pub take : (a b : SlaveTake) → takeGiven a ≡ takeGiven b → a ≡ b
+  pub step : (a b : SlaveStep) → stepGiven a ≡ stepGiven b → a ≡ b
+
+-- the worked cases: station 5, linked, counts zero, nothing held, nothing waiting; an I order with both counts 0 and a message of 5 bytes
+abbrev pub linked : Slave
+linked = record { side = fresh; mode = Nrm; address = 5 }
+
+abbrev pub message : List ℕ
+message = 7 ∷ 0 ∷ 5 ∷ 0x31 ∷ 1 ∷ []
+
+abbrev pub ordered : Slave → Slave
+ordered s = stepOf s 5 (I (record { 0 = 0 }) (record { 0 = 0 })) message 253 .end
+
+abbrev pub says : Meaning → Line
+says f = record { address = 5; meaning = f; size = 0 }
+
+abbrev pub hands : ℕ → News
+hands n = record { confirmed = 0; handed = n; link = Same }
+
+-- "New message into an empty slot, none held: answer RNR with Nr one higher"
+abbrev pub NewMessage : Type 0
+NewMessage = stepOf linked 5 (I (record { 0 = 0 }) (record { 0 = 0 })) message 253 .answer ≡ gives (says (Rnr (record { 0 = 1 })), hands 5)
+
+-- "Order arrives, response lost, slave's owner takes the message, whole exchange: duplicate dropped, RR with Nr 1, one handing over."
+abbrev pub RepeatedOrder : Type 0
+RepeatedOrder =
+    (takeOf (ordered linked) 253 .answer ≡ gives 5)
+    × (stepOf (takeOf (ordered linked) 253 .end) 5 (I (record { 0 = 0 }) (record { 0 = 0 })) message 253 .answer ≡ gives (says (Rr (record { 0 = 1 })), hands 0))
+    × (ordered (takeOf (ordered linked) 253 .end) .side .waits ≡ 0)
