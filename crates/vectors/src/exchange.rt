@@ -78,48 +78,51 @@ fn arrives(pair: Pair, tick: u32, fate: Fate, line: Line, down: &[u8]) -> Pair {
     match fate {
         Fate::Whole => answered(pair, tick, true, line, down),
         Fate::OrderLost => silent(pair),
-        Fate::ResponseLost => silent(stepped(pair, line, down)),
+        Fate::ResponseLost => unheard(pair, line, down),
         Fate::Late => answered(pair, tick, false, line, down),
     }
 }
 
-// The step alone; its response is lost.
-fn stepped(pair: Pair, line: Line, down: &[u8]) -> Pair {
-    let mut up = [0u8; 253];
+// What the slave's step answered, and the pair after it.
+struct AfterStep {
+    answer: StepAnswer,
+    pair: Pair,
+}
+
+fn stepped(pair: Pair, line: Line, down: &[u8], up: &mut [u8]) -> AfterStep {
     let slave = pair.slave;
     let master = pair.master;
     let address = line.address;
     let meaning = line.meaning;
     let size = line.size;
-    let stepped = slave.step(address, meaning, part(down, size), &mut up);
-    let answer = stepped.answer;
-    let after = stepped.slave;
-    step_shown(answer, &up);
-    Pair {
+    let step = slave.step(address, meaning, part(down, size), up);
+    let answer = step.answer;
+    let after = step.slave;
+    step_shown(answer, up);
+    let pair = Pair {
         master,
         slave: after,
-    }
+    };
+    AfterStep { answer, pair }
+}
+
+// The step, whose response is lost.
+fn unheard(pair: Pair, line: Line, down: &[u8]) -> Pair {
+    let mut up = [0u8; 253];
+    let step = stepped(pair, line, down, &mut up);
+    let after = step.pair;
+    silent(after)
 }
 
 // The step, and its response in time or too late.
 fn answered(pair: Pair, tick: u32, in_time: bool, line: Line, down: &[u8]) -> Pair {
     let mut up = [0u8; 253];
-    let slave = pair.slave;
-    let master = pair.master;
-    let address = line.address;
-    let meaning = line.meaning;
-    let size = line.size;
-    let stepped = slave.step(address, meaning, part(down, size), &mut up);
-    let answer = stepped.answer;
-    let after = stepped.slave;
-    step_shown(answer, &up);
-    let pair = Pair {
-        master,
-        slave: after,
-    };
+    let step = stepped(pair, line, down, &mut up);
+    let answer = step.answer;
+    let after = step.pair;
     match answer {
-        StepAnswer::Responds(response, _) => heard(pair, heard_at(tick, in_time), response, &up),
-        StepAnswer::Refused(_) => pair,
+        StepAnswer::Responds(response, _) => heard(after, heard_at(tick, in_time), response, &up),
+        StepAnswer::Refused(_) => after,
     }
 }
 

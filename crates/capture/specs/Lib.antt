@@ -1,0 +1,7 @@
+-- The definitions that the promises of this room cite.
+pub mod Record
+pub mod Text
+pub mod Decimal
+pub mod Listing
+pub mod Put
+pub mod Promises
