@@ -24,6 +24,7 @@ limitRefusal l = pick (ltb l 1) 15 (pick (ltb 65535 l) 15 0)
 unfoldable pub limitWrong : ℕ → ℕ
 limitWrong l = pick (eqb (limitRefusal l) 0) 0 30
 
+-- 30 of what a master has beside its side
 unfoldable pub outerWrong : ℕ → ℕ → ℕ
 outerWrong a l = addressWrong a then limitWrong l
 
@@ -39,6 +40,7 @@ begun t l a = record { side = t; mode = Disconnecting; busy = false; waiting = f
 abbrev pub blank : Master
 blank = begun fresh 0 0
 
+-- the same master over another side
 abbrev pub onSide : Master → Side → Master
 onSide m t =
     record {
@@ -55,6 +57,7 @@ onSide m t =
 abbrev pub doneGiven : MasterDone → Given (Unit {0}) Master
 doneGiven r = record { answer = done (r .answer); end = r .master }
 
+-- the same for take
 abbrev pub takeGiven : MasterTake → Given ℕ Master
 takeGiven r = record { answer = taken (r .answer); end = r .master }
 
@@ -62,6 +65,7 @@ takeGiven r = record { answer = taken (r .answer); end = r .master }
 unfoldable pub makeRefusal : ℕ → ℕ → ℕ
 makeRefusal a l = addressRefusal a then limitRefusal l
 
+-- a fresh master, or the blank one
 unfoldable pub makeOf : ℕ → ℕ → Given (Unit {0}) Master
 makeOf a l = refusing (makeRefusal a l) blank (giving tt (begun fresh l a))
 

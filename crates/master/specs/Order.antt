@@ -50,6 +50,7 @@ plain m f tick = record { line = record { address = m .address; meaning = f; siz
 unfoldable pub mayInform : Master → Bool
 mayInform m = pick (full (m .side)) false (not (m .busy))
 
+-- a linked master says I, RNR or RR, with the counts as they stand
 unfoldable pub inLinked : Master → ℕ → Ordered
 inLinked m tick =
     record {
@@ -63,6 +64,7 @@ ordersIn Disconnecting m tick = plain m Disc tick
 ordersIn Connecting m tick = plain m Snrm tick
 ordersIn Linked m tick = inLinked m tick
 
+-- what an order that is not refused does
 unfoldable pub orders : Master → ℕ → Ordered
 orders m tick = ordersIn (m .mode) m tick
 
@@ -71,9 +73,11 @@ abbrev pub ordered : OrderAnswer → Answer Line
 ordered (Orders l) = gives l
 ordered (Refused n) = refuses n
 
+-- the same for the whole result
 abbrev pub orderGiven : MasterOrder → Given Line Master
 orderGiven r = record { answer = ordered (r .answer); end = r .master }
 
+-- an order gives what goes on the line
 unfoldable pub orderOf : Master → ℕ → ℕ → Given Line Master
 orderOf m tick room = refusing (orderRefusal m room) m (giving (orders m tick .line) (orders m tick .master))
 

@@ -76,6 +76,7 @@ unfoldable pub accepts : Master → Meaning → Side → ℕ → ℕ → Brought
 accepts m f t confirmed handed =
     record { news = record { confirmed = confirmed; handed = handed; link = Same }; master = goes m Linked (isRnr f) t }
 
+-- UA is the only response that leads on while the link is made
 unfoldable pub isUa : Meaning → Bool
 isUa (I ns nr) = false
 isUa (Rr nr) = false
@@ -98,9 +99,11 @@ abbrev pub onHeard : Master → Meaning → Side → Rule → Brought
 onHeard m f t Irrecoverable = turns m Disconnecting Lost
 onHeard m f t (Accepted confirmed handed) = accepts m f t confirmed handed
 
+-- "Count rule, .. master linked, for I, RR, RNR"
 unfoldable pub hearLinked : Master → Meaning → List ℕ → Brought
 hearLinked m f k = onHeard m f (countRule (m .side) f k .side) (countRule (m .side) f k .heard)
 
+-- what is heard goes by the mode
 abbrev pub hearsIn : Mode → Master → Meaning → List ℕ → Brought
 hearsIn Disconnecting m f k = hearDisconnecting m f
 hearsIn Connecting m f k = hearConnecting m f
@@ -121,13 +124,16 @@ reported (Heard n) = gives (brings n)
 reported Silence = gives silent
 reported (Refused n) = refuses n
 
+-- the same for the whole result
 abbrev pub responseGiven : MasterResponse → Given Report Master
 responseGiven r = record { answer = reported (r .answer); end = r .master }
 
+-- "An age at or above the limit, or another address, counts as silence": judged after 16, 9, 10, 12
 unfoldable pub responseOf : Master → ℕ → Meaning → List ℕ → ℕ → Given Report Master
 responseOf m a f k tick =
     refusing (responseRefusal m f k) m
     (pick (countsAsSilence m a tick) (giving silent (silenced m)) (giving (brings (hears m f k .news)) (hears m f k .master)))
 
+-- "silence ends it and changes nothing else"
 unfoldable pub silenceOf : Master → Given (Unit {0}) Master
 silenceOf m = refusing (silenceRefusal m) m (giving tt (silenced m))

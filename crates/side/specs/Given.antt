@@ -43,6 +43,7 @@ abbrev pub done : Outcome → Answer (Unit {0})
 done Done = gives tt
 done (Refused n) = refuses n
 
+-- take gives the size of the message
 abbrev pub taken : TakeAnswer → Answer ℕ
 taken (Taken n) = gives n
 taken (NotTaken n) = refuses n

@@ -25,6 +25,7 @@ slotWrong slot n =
 abbrev pub sentWrong : Bool → ℕ → ℕ
 sentWrong sent n = pick sent (pick (eqb n 0) 30 0) 0
 
+-- 30 for any of these
 unfoldable pub sideWrong : Side → ℕ
 sideWrong s =
     countWrong (s .ns .0) then countWrong (s .nr .0)

@@ -63,6 +63,7 @@ unfoldable pub handOver : List ℕ → ℕ → Side → Hearing
 handOver m confirmed s =
     pick (room s (length m)) (record { heard = Accepted confirmed (length m); side = filledWith m (advanced s) }) (notTaken confirmed s)
 
+-- an irrecoverable Nr hands over nothing
 abbrev pub onHeard : List ℕ → Side → Heard → Hearing
 onHeard m s Irrecoverable = irrecoverable s
 onHeard m s (Accepted confirmed handed) = handOver m confirmed s
@@ -87,6 +88,7 @@ countRule s Disc m = irrecoverable s
 countRule s Ua m = irrecoverable s
 countRule s Frmr m = irrecoverable s
 
+-- "the order was not RNR"; "RNR heard marks busy"
 unfoldable pub isRnr : Meaning → Bool
 isRnr (I ns nr) = false
 isRnr (Rr nr) = false

@@ -25,9 +25,11 @@ putRefusal s m = sideWrong s then messageRefusal m then heldRefusal (s .holds)
 abbrev pub withHeld : List ℕ → Side → Side
 withHeld m s = withOutgoing (m ++ drop (length m) (s .held)) (length m) false s
 
+-- put gives no value
 unfoldable pub putOf : Side → List ℕ → Given (Unit {0}) Side
 putOf s m = refusing (putRefusal s m) s (giving tt (withHeld m s))
 
+-- the number and the values of a result, and the side
 abbrev pub putGiven : SidePut → Given (Unit {0}) Side
 putGiven r = record { answer = done (r .answer); end = r .side }
 
@@ -47,6 +49,7 @@ emptied s = withIncoming (s .incoming) 0 s
 unfoldable pub takeOf : Side → ℕ → Given ℕ Side
 takeOf s room = refusing (takeRefusal s room) s (giving (s .waits) (emptied s))
 
+-- the same for take
 abbrev pub takeGiven : SideTake → Given ℕ Side
 takeGiven r = record { answer = taken (r .answer); end = r .side }
 

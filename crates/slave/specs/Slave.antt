@@ -26,6 +26,7 @@ begun t a = record { side = t; mode = Ndm; address = a }
 abbrev pub blank : Slave
 blank = begun fresh 0
 
+-- the same slave over another side
 abbrev pub onSide : Slave → Side → Slave
 onSide s t = record { side = t; mode = s .mode; address = s .address }
 
@@ -33,6 +34,7 @@ onSide s t = record { side = t; mode = s .mode; address = s .address }
 abbrev pub doneGiven : SlaveDone → Given (Unit {0}) Slave
 doneGiven r = record { answer = done (r .answer); end = r .slave }
 
+-- the same for take
 abbrev pub takeGiven : SlaveTake → Given ℕ Slave
 takeGiven r = record { answer = taken (r .answer); end = r .slave }
 

@@ -75,6 +75,7 @@ onHeard s f t (Accepted confirmed handed) = responds s f t confirmed handed
 unfoldable pub inNrm : Slave → Meaning → List ℕ → Moved
 inNrm s f m = onHeard s f (countRule (s .side) f m .side) (countRule (s .side) f m .heard)
 
+-- table 3, row by row
 abbrev pub movedIn : Mode → Slave → Meaning → List ℕ → Moved
 movedIn Ndm s f m = inNdm s f
 movedIn Nrm s f m = inNrm s f m
@@ -88,6 +89,7 @@ abbrev pub responded : StepAnswer → Answer (Line × News)
 responded (Responds l n) = gives (l, n)
 responded (Refused k) = refuses k
 
+-- the same for the whole result
 abbrev pub stepGiven : SlaveStep → Given (Line × News) Slave
 stepGiven r = record { answer = responded (r .answer); end = r .slave }
 

@@ -13,7 +13,7 @@ goes-requires c κs = search needs
 
 returns : tie.Need-returns
 unfolding accepts
-returns c = rw (c .goes .ensures, c .before .is-rnr .ensures)
+returns c = rw (c .goes .ensures, ← c .before .is-rnr .ensures)
 
 pub accepts-spec : {M : Type 1} → statement M
 accepts-spec = tie.close (tie.spec is-rnr-requires goes-requires returns)

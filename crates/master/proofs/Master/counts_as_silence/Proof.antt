@@ -1,5 +1,7 @@
 -- `master::Master::counts_as_silence` meets its contract.
 -- Assumes nothing.
+use Prim.Native.Nat.{_≤_}
+use native.Mathlib.Omega.{arith}
 use Rattle.frame.proofs.Tests.{tests}
 use Rattle.master.specs.Response.{countsAsSilence}
 use borrow.Author.Needs.{needs}
@@ -15,7 +17,10 @@ age-requires c κs = search needs
 
 returns-2 : tie.Need-returns-2
 unfolding countsAsSilence
-returns-2 c = search (tests, ← c .before .age .ensures)
+returns-2 c =
+    let d = c .before in
+    let late : d .before .before .args .self .limit ≤ d .age .result = omega arith in
+    search (tests, ← d .age .ensures)
 
 returns-3 : tie.Need-returns-3
 unfolding countsAsSilence

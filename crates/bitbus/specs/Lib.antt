@@ -1,0 +1,11 @@
+-- The definitions that the promises of this room cite.
+pub mod Layout
+pub mod SlaveLayout
+pub mod MasterLayout
+pub mod Control
+pub mod Call
+pub mod SlaveCalls
+pub mod MasterCalls
+pub mod Wire
+pub mod Captures
+pub mod Promises
