@@ -238,8 +238,8 @@ uint32_t bitbus_master_clear(uint8_t end[BITBUS_MASTER_SIZE]);
 
 /* ---- Captures ---- */
 
-/* What stands at a place of a capture. Begin at 0 and go on at values[4], until values[0] is BITBUS_RECORD_END or a
-   record is refused.
+/* What stands at a place of a capture; at its end and past it, BITBUS_RECORD_END. Begin at 0 and go on at values[4],
+   until values[0] is BITBUS_RECORD_END or a record is refused.
    Numbers: 18 length under 4 or past the end, another kind, a body of the wrong size, 1 to 3 bytes left; 8, 9, 10, 12 of
    the body, as for writing.
    values: [0] BITBUS_RECORD_..., [1] address, [2] control byte, [3] information size, [4] the place where the next

@@ -1,3 +1,5 @@
+-- `line::nrzi::bits_of` meets its contract.
+-- Assumes nothing.
 use mathlib.Core.Bool.{true, false}
 use Rattle.line.proofs.Levels.{bits-byte}
 use Rattle.line.proofs.nrzi.bits_of.Statement.{statement}

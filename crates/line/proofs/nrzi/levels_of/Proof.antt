@@ -1,3 +1,5 @@
+-- `line::nrzi::levels_of` meets its contract.
+-- Assumes nothing.
 use mathlib.Core.Bool.{true, false}
 use Rattle.line.proofs.Levels.{levels-byte}
 use Rattle.line.proofs.nrzi.levels_of.Statement.{statement}
