@@ -1,14 +1,13 @@
 -- What the message check tells of a message that it passes.
 -- Assumes nothing.
-use Prim.Native.Nat.{ℕ, _+_, _-_, _≤_}
-use mathlib.Core.Path.{_≡_, refl}
+use Prim.Native.Nat.{ℕ, _+_, _-_}
+use mathlib.Core.Path.{_≡_}
 use mathlib.Core.List.{List, [], _∷_, _++_}
 use native.Mathlib.Omega.{arith}
 use lib.Dec.{eqb, ltb}
 use lib.ListN.{length, getD, length-append}
 use lib.Seq.{take-at}
 use borrow.Author.Tests.{ltb-false, eqb-true, le-ltb, eq-eqb}
-use Rattle.frame.specs.Pick.{pick}
 use Rattle.frame.specs.Message.{messageRefusal, informationIn}
 use Rattle.frame.specs.Promises.{Right, MessageRight, DataSize, Part}
 use Rattle.frame.proofs.Laws.{pick-first, pick-second}

@@ -1,11 +1,11 @@
 -- The promises of NRZI, kept.
 -- Assumes nothing.
-use Prim.Native.Nat.{ℕ, _+_, _*_, _≤_}
-use mathlib.Core.Path.{_≡_, _∙_, refl, sym, ap}
-use mathlib.Core.Bool.{Bool, true, false}
-use mathlib.Core.List.{List, [], _∷_, _++_, List·Memᴰ·head as here, List·Memᴰ·tail as there}
+use Prim.Native.Nat.{ℕ, _*_}
+use mathlib.Core.Path.{_≡_, _∙_, refl, ap}
+use mathlib.Core.Bool.{Bool}
+use mathlib.Core.List.{List, [], _∷_, List·Memᴰ·head as here, List·Memᴰ·tail as there}
 use native.Mathlib.Omega.{arith}
-use lib.Dec.{eqb, ltb}
+use lib.Dec.{ltb}
 use lib.ListN.{length, take, drop, length-append, length-drop}
 use lib.Seq.{take-at, drop-at, length-take-le}
 use borrow.Author.Tests.{eq-eqb}
@@ -13,9 +13,8 @@ use Rattle.frame.proofs.Laws.{pick-among, then-among, unless-lists}
 use Rattle.line.specs.Bits.{bitsOf, bytesOf}
 use Rattle.line.specs.Packed.{bytesFor, over}
 use Rattle.line.specs.Read.{bitCountRefusal}
-use Rattle.line.specs.Nrzi.{coding, reached, nrziRefusal, codeOf, codeBytes, coded}
+use Rattle.line.specs.Nrzi.{coding, reached, nrziRefusal, codeOf, codeBytes}
 use Rattle.line.specs.NrziPromises.{NrziThereAndBack, NrziBits, NrziNumbers, NrziLosesNothing}
-use Rattle.line.specs.declared.nrzi.Coded.{Coded}
 use Rattle.line.specs.declared.nrzi.Coded.the-variants.{Level, Refused}
 use Rattle.line.proofs.BitLaws.{length-bitsOf, bits-back}
 use Rattle.line.proofs.Levels.{bits-again, levels-again, length-coding}

@@ -1,9 +1,9 @@
 -- What is promised of NRZI beside each function's contract. The proofs stand in proofs/NrziKept.antt.
-use Prim.Native.Nat.{ℕ, _<_}
+use Prim.Native.Nat.{ℕ}
 use mathlib.Core.Path.{_≡_}
 use mathlib.Core.Bool.{Bool, true, false}
 use mathlib.Core.List.{List, [], _∷_}
-use lib.ListN.{length, getD, take, drop}
+use lib.ListN.{length, take, drop}
 use Rattle.frame.specs.Answer.{Lists}
 use Rattle.line.specs.Bits.{bitsOf}
 use Rattle.line.specs.Nrzi.{coding, nrziRefusal, codeOf, codeBytes, coded}

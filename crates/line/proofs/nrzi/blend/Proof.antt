@@ -26,7 +26,7 @@ rem-low : tie.Need-rem-low
 rem-low c = let a = c .args in rw (power (a .fresh) (a .old) (a .n) (c .pre)) (pow-pos (a .n))
 
 add-result : tie.Need-add-result
-add-result c = let a = c .args in rw (power (a .fresh) (a .old) (a .n) (c .pre)) (record { fits = blend-fits (a .fresh) (a .old) (a .n) (c .pre) (c .fits .old .fits) })
+add-result c = let a = c .args in rw (power (a .fresh) (a .old) (a .n) (c .pre)) (record { fits = omega (arith, blend-fits (a .fresh) (a .old) (a .n) (c .pre) (c .fits .old .fits)) })
 
 returns : tie.Need-returns
 returns c = let a = c .args in rw (power (a .fresh) (a .old) (a .n) (c .pre))

@@ -1,8 +1,7 @@
 -- `line::nrzi::code_last` meets its contract.
 -- Assumes nothing.
 use Prim.Native.Nat.{ℕ, _/_, _%_, _^_, _*_, _+_}
-use mathlib.Core.Path.{_∙_, sym, ap}
-use mathlib.Core.List.{List, _++_}
+use mathlib.Core.Path.{_∙_, ap}
 use lib.ListN.{set, getD}
 use Rattle.line.proofs.Levels.{blended}
 use borrow.Author.Needs.{needs}

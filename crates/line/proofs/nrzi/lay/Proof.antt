@@ -1,11 +1,11 @@
 -- `line::nrzi::lay` meets its contract.
 -- Assumes nothing.
-use Prim.Native.Nat.{ℕ, _+_, _*_, _/_, _%_, _≤_, _<_}
+use Prim.Native.Nat.{_+_, _*_, _/_, _%_}
 use mathlib.Core.Path.{_≡_, _∙_, ap}
 use mathlib.Core.Bool.{Bool}
 use mathlib.Core.List.{_++_}
 use native.Mathlib.Omega.{arith}
-use lib.ListN.{length, getD, set, drop}
+use lib.ListN.{getD, set, drop}
 use Rattle.line.specs.Bits.{low, val}
 use Rattle.line.specs.Nrzi.{coding, reached}
 use Rattle.line.proofs.Laid.{laid-whole, laid-part}
