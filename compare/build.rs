@@ -14,7 +14,7 @@ fn main() {
     println!("cargo:rerun-if-changed={}", library.display());
     assert!(
         library.exists(),
-        "{} is missing: make it with `rt staticlib bitbus`",
+        "{} is missing: make it with `./library`",
         library.display()
     );
     println!("cargo:rustc-link-search=native={}", folder.display());

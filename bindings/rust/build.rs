@@ -12,7 +12,7 @@ fn main() {
     let library = folder.join("libbitbus.a");
     if !library.is_file() {
         stop(&format!(
-            "{} is not there: make it by `rt staticlib bitbus`, or name its folder in the environment variable BITBUS_LIB",
+            "{} is not there: make it by `./library`, or name its folder in the environment variable BITBUS_LIB",
             library.display()
         ));
     }
