@@ -3,7 +3,7 @@ use Prim.Native.Nat.{ℕ}
 use mathlib.Core.Bool.{Bool}
 use mathlib.Core.List.{List, [], _∷_}
 use Rattle.frame.specs.declared.Meaning.{Meaning}
-use Rattle.line.specs.Write.{Report}
+use Rattle.writer.specs.Write.{Report}
 use Rattle.bitbus.specs.Layout.{markByte}
 use Rattle.bitbus.specs.Control.{controlOf}
 

@@ -1,22 +1,19 @@
 // The exported functions of the wire: check word, message check, writing, reading, NRZI both ways.
 use crate::code;
+use bits::check;
 use frame::message;
 use frame::message::Checked;
-use line::check;
-use line::nrzi;
-use line::nrzi::Coded;
-use line::read;
-use line::read::Reading;
-use line::write;
-use line::write::Written;
+use nrzi::Coded;
+use reader::Reading;
+use writer::Written;
 ghost use mathlib.Core.Bool.{false, true};
 ghost use mathlib.Core.Path.{_≡_};
 ghost use lib.ListN.{length};
 ghost use Rattle.frame.specs.Message.{checkOf};
-ghost use Rattle.line.specs.Check.{checkWord};
-ghost use Rattle.line.specs.Nrzi.{codeBytes, codeOf, coded};
-ghost use Rattle.line.specs.Read.{outAfter, readingGives, readOf, told};
-ghost use Rattle.line.specs.Write.{writeBytes, writeOf, written};
+ghost use Rattle.bits.specs.Check.{checkWord};
+ghost use Rattle.nrzi.specs.Nrzi.{codeBytes, codeOf, coded};
+ghost use Rattle.reader.specs.Read.{outAfter, readingGives, readOf, told};
+ghost use Rattle.writer.specs.Write.{writeBytes, writeOf, written};
 ghost use Rattle.bitbus.specs.Call.{after, number};
 ghost use Rattle.bitbus.specs.Control.{meaningOf};
 ghost use Rattle.bitbus.specs.Wire.{levelValues, readValues, writeValues};
@@ -55,7 +52,7 @@ pub extern "C" fn bitbus_write(
     ensures values { λ _. ⌜ now (values .exit) ≡ after writeValues (writeOf address (meaningOf control) (now (information .entry)) (length (now (out .entry)))) (now (values .entry)) ⌝ }
 {
     let meaning = code::meaning_of(control);
-    let wrote = write::write(address, meaning, information, out);
+    let wrote = writer::write(address, meaning, information, out);
     finish_write(wrote, values)
 }
 
@@ -84,7 +81,7 @@ pub extern "C" fn bitbus_read(
     ensures out { λ _. ⌜ now (out .exit) ≡ outAfter (readOf (now (buffer .entry)) bits (length (now (out .entry)))) (now (out .entry)) ⌝ }
     ensures values { λ _. ⌜ now (values .exit) ≡ after readValues (told (readOf (now (buffer .entry)) bits (length (now (out .entry))))) (now (values .entry)) ⌝ }
 {
-    let reading = read::read(buffer, bits, out);
+    let reading = reader::read(buffer, bits, out);
     finish_read(reading, values)
 }
 

@@ -1,24 +1,2 @@
--- Laws of this room, and its theorems.
-pub mod BitLaws
-pub mod Checking
-pub mod Filling
-pub mod Insertion
-pub mod BitAt
-pub mod Stuffing
-pub mod Laying
-pub mod Lining
-pub mod Answering
-pub mod Writing
-pub mod Examples
-pub mod Placing
-pub mod Levels
-pub mod Laid
-pub mod NrziKept
-pub mod Windows
-pub mod Seeking
-pub mod Keeping
-pub mod Judging
-pub mod Answers
-pub mod Enclosed
+-- The theorems of this room.
 pub mod Round
-pub mod ReadExamples

@@ -19,29 +19,30 @@ use Rattle.frame.specs.declared.Meaning.the-variants.{I, Rr, Rnr, Snrm, Disc, U
 use Rattle.frame.proofs.Laws.{pick-cases, pick-first, pick-second, then-zero, unless-gives}
 use Rattle.frame.proofs.ControlBytes.{count-small, decode-byte, round-trip}
 use Rattle.frame.proofs.Messages.{part as informationPart}
-use Rattle.line.specs.Bits.{bitsOf, bytesOf}
-use Rattle.line.specs.Insert.{insert, remove, ending}
-use Rattle.line.specs.Check.{checkWord, checkBytes}
-use Rattle.line.specs.Places.{Flag}
-use Rattle.line.specs.Flags.{Heard, nothing, content, heard}
-use Rattle.line.specs.Read.{Carried, _before_, removalRefusal, checkRefusal, bytesIn, meant, frameAnswer, contentAnswer, judged, fitting, bitCountRefusal, readOf, told, outAfter}
-use Rattle.line.specs.Reader.{ReadAllowed}
-use Rattle.line.specs.Packed.{bytesFor}
-use Rattle.line.specs.Write.{Report, contentBytes, line, contentOf, report, roomRefusal, writeRefusal, writeOf, writeBytes, laid}
-use Rattle.line.specs.Writer.{WriteAllowed}
+use Rattle.bits.specs.Bits.{bitsOf, bytesOf}
+use Rattle.bits.specs.Insert.{insert, remove, ending}
+use Rattle.bits.specs.Check.{checkWord, checkBytes}
+use Rattle.bits.specs.Count.{bitCountRefusal}
+use Rattle.bits.specs.Packed.{bytesFor}
+use Rattle.bits.proofs.BitLaws.{length-bitsOf, bytes-back, bits-back, bytesOf-small, length-bytesOf}
+use Rattle.bits.proofs.Insertion.{no-six-ones, length-insert, remove-insert, ending-insert, insert-remove, never-quiet}
+use Rattle.writer.specs.Write.{Report, contentBytes, line, contentOf, report, roomRefusal, writeRefusal, writeOf, writeBytes, laid}
+use Rattle.writer.specs.Promises.{WriteAllowed}
+use Rattle.writer.specs.declared.Written.the-variants.{Line}
+use Rattle.writer.proofs.Answering.{information-few, encode-gives}
+use Rattle.writer.proofs.Lining.{length-content, laid-bits}
+use Rattle.writer.proofs.Writing.{write-within}
+use Rattle.reader.specs.Places.{Flag}
+use Rattle.reader.specs.Flags.{Heard, nothing, content, heard}
+use Rattle.reader.specs.Read.{Carried, _before_, removalRefusal, checkRefusal, bytesIn, meant, frameAnswer, contentAnswer, judged, fitting, readOf, told, outAfter}
+use Rattle.reader.specs.Promises.{ReadAllowed}
+use Rattle.reader.specs.declared.Reading.{Reading}
+use Rattle.reader.specs.declared.Reading.the-variants.{Frame}
+use Rattle.reader.proofs.Answers.{read-loses-nothing}
+use Rattle.reader.proofs.Judging.{before-passes, removal-passed}
+use Rattle.reader.proofs.Windows.{flag-within}
+use Rattle.reader.proofs.Enclosed.{enclosed-heard, heard-quiet}
 use Rattle.line.specs.RoundTrip.{Bytes, WrittenIsRead, CallsFit, ReadIsWritten, ContentIsWritten}
-use Rattle.line.specs.declared.write.Written.the-variants.{Line}
-use Rattle.line.specs.declared.read.Reading.{Reading}
-use Rattle.line.specs.declared.read.Reading.the-variants.{Frame}
-use Rattle.line.proofs.BitLaws.{length-bitsOf, bytes-back, bits-back, bytesOf-small, length-bytesOf}
-use Rattle.line.proofs.Insertion.{no-six-ones, length-insert, remove-insert, ending-insert, insert-remove, never-quiet}
-use Rattle.line.proofs.Answering.{information-few, encode-gives}
-use Rattle.line.proofs.Answers.{read-loses-nothing}
-use Rattle.line.proofs.Lining.{length-content, laid-bits}
-use Rattle.line.proofs.Writing.{write-within}
-use Rattle.line.proofs.Judging.{before-passes, removal-passed}
-use Rattle.line.proofs.Windows.{flag-within}
-use Rattle.line.proofs.Enclosed.{enclosed-heard, heard-quiet}
 
 -- ---- bytes
 

@@ -1,22 +1,2 @@
--- The definitions that the promises of this room cite.
-pub mod Bits
-pub mod Insert
-pub mod Check
-pub mod Packed
-pub mod CheckTable
-pub mod Sink
-pub mod Stuff
-pub mod Write
-pub mod Writer
-pub mod Points
-pub mod Insertion
-pub mod Flags
-pub mod Places
-pub mod Nrzi
-pub mod NrziPromises
-pub mod Search
-pub mod Extract
-pub mod Read
-pub mod Reader
+-- The statements of this room.
 pub mod RoundTrip
-pub mod ReadPoints

@@ -7,17 +7,18 @@ use lib.ListN.{length, getD, take, drop}
 use Rattle.frame.specs.Answer.{gives}
 use Rattle.frame.specs.Refusal.{addressRefusal, frameRefusal}
 use Rattle.frame.specs.declared.Meaning.{Meaning}
-use Rattle.line.specs.Bits.{bitsOf}
-use Rattle.line.specs.Insert.{insert, remove, ending}
-use Rattle.line.specs.Flags.{content, heard}
-use Rattle.line.specs.Places.{Flag}
-use Rattle.line.specs.Write.{line, contentOf}
-use Rattle.line.specs.Writer.{WriteAllowed}
-use Rattle.line.specs.Read.{Carried, bitCountRefusal, removalRefusal, bytesIn, readOf}
-use Rattle.line.specs.Reader.{ReadAllowed}
-use Rattle.line.specs.declared.write.Written.the-variants.{Line}
-use Rattle.line.specs.declared.read.Reading.{Reading}
-use Rattle.line.specs.declared.read.Reading.the-variants.{Frame}
+use Rattle.bits.specs.Bits.{bitsOf}
+use Rattle.bits.specs.Insert.{insert, remove, ending}
+use Rattle.bits.specs.Count.{bitCountRefusal}
+use Rattle.writer.specs.Write.{line, contentOf}
+use Rattle.writer.specs.Promises.{WriteAllowed}
+use Rattle.writer.specs.declared.Written.the-variants.{Line}
+use Rattle.reader.specs.Flags.{content, heard}
+use Rattle.reader.specs.Places.{Flag}
+use Rattle.reader.specs.Read.{Carried, removalRefusal, bytesIn, readOf}
+use Rattle.reader.specs.Promises.{ReadAllowed}
+use Rattle.reader.specs.declared.Reading.{Reading}
+use Rattle.reader.specs.declared.Reading.the-variants.{Frame}
 
 -- numbers that are bytes
 abbrev pub Bytes : List ℕ → Type 0

@@ -1,5 +1,6 @@
 // Document 01's wire examples and published check words: each input with what the code makes of it.
 use crate::print;
+use bits::check;
 use frame::Meaning;
 use frame::ReceiveCount;
 use frame::SendCount;
@@ -7,13 +8,9 @@ use frame::control;
 use frame::control::Decoded;
 use frame::message;
 use frame::message::Checked;
-use line::check;
-use line::nrzi;
-use line::nrzi::Coded;
-use line::read;
-use line::read::Reading;
-use line::write;
-use line::write::Written;
+use nrzi::Coded;
+use reader::Reading;
+use writer::Written;
 ghost use Prim.Native.Nat.{_≤_};
 
 pub fn show() {
@@ -116,7 +113,7 @@ fn address(a: u8) {
     let mut out = [0u8; 311];
     print::small(a);
     print::text(b" ");
-    match write::write(a, Meaning::Disc, b"", &mut out) {
+    match writer::write(a, Meaning::Disc, b"", &mut out) {
         Written::Line { bits: _, zeros: _ } => print::text(b"taken"),
         Written::Refused(n) => print::refused(n),
     }
@@ -144,7 +141,7 @@ fn frames() {
 
 fn both_ways(a: u8, m: Meaning, info: &[u8]) {
     let mut out = [0u8; 311];
-    let written = write::write(a, m, info, &mut out);
+    let written = writer::write(a, m, info, &mut out);
     match written {
         Written::Line { bits, zeros } => {
             print::size(bits);
@@ -175,7 +172,7 @@ fn strange_lines() {
 
 fn heard(buffer: &[u8], bits: usize) {
     let mut info = [0u8; 253];
-    match read::read(buffer, bits, &mut info) {
+    match reader::read(buffer, bits, &mut info) {
         Reading::Frame(a, m, size) => {
             print::small(a);
             print::text(b" ");

@@ -1,7 +1,7 @@
 -- `bitbus::wire::finish_nrzi` meets its contract.
 -- Assumes nothing.
 use mathlib.Core.Path.{_≡_}
-use Rattle.line.specs.declared.nrzi.Coded.the-variants.{Level}
+use Rattle.nrzi.specs.declared.Coded.the-variants.{Level}
 use borrow.Author.Needs.{needs}
 use Rattle.bitbus.proofs.wire.finish_nrzi.Statement.{statement}
 use Rattle.bitbus.proofs.wire.finish_nrzi.Tie as tie

@@ -1,7 +1,7 @@
 -- `bitbus::wire::finish_read` meets its contract.
 -- Assumes nothing.
 use mathlib.Core.Path.{_≡_}
-use Rattle.line.specs.declared.read.Reading.the-variants.{Frame}
+use Rattle.reader.specs.declared.Reading.the-variants.{Frame}
 use borrow.Author.Needs.{needs}
 use Rattle.bitbus.proofs.wire.finish_read.Statement.{statement}
 use Rattle.bitbus.proofs.wire.finish_read.Tie as tie

@@ -1,7 +1,7 @@
 -- `bitbus::wire::finish_write` meets its contract.
 -- Assumes nothing.
 use mathlib.Core.Path.{_≡_}
-use Rattle.line.specs.declared.write.Written.the-variants.{Line}
+use Rattle.writer.specs.declared.Written.the-variants.{Line}
 use borrow.Author.Needs.{needs}
 use Rattle.bitbus.proofs.wire.finish_write.Statement.{statement}
 use Rattle.bitbus.proofs.wire.finish_write.Tie as tie

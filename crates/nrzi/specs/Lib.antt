@@ -1,0 +1,3 @@
+-- The definitions that the promises of this room cite.
+pub mod Nrzi
+pub mod Promises
