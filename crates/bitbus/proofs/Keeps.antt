@@ -25,16 +25,17 @@ use Rattle.master.specs.Order.{orderOf}
 use Rattle.master.specs.Response.{responseOf, silenceOf}
 use Rattle.master.specs.declared.Master.{Master}
 use Rattle.master.proofs.Keeps.{keeps as master, parts as master-parts}
+use Rattle.layout.specs.Layout.{sideAt, sideBytes}
+use Rattle.layout.specs.SlaveLayout.{slaveAt, slaveBytes, slaveWrong}
+use Rattle.layout.specs.MasterLayout.{masterAt, masterBytes, masterTail, masterWrong}
+use Rattle.layout.specs.Promises.{Typed}
+use Rattle.layout.proofs.Laying.{side-length, tail-length}
+use Rattle.layout.proofs.ReadBack.{read-back}
 use Rattle.bitbus.specs.Call.{after}
 use Rattle.bitbus.specs.Control.{meaningOf}
-use Rattle.bitbus.specs.Layout.{sideAt, sideBytes}
-use Rattle.bitbus.specs.SlaveLayout.{slaveAt, slaveBytes, slaveWrong}
-use Rattle.bitbus.specs.MasterLayout.{masterAt, masterBytes, masterTail, masterWrong}
 use Rattle.bitbus.specs.SlaveCalls.{onSlave, slaveMake, slavePut, slaveTake, slaveStep, slaveRestart, slaveClear}
 use Rattle.bitbus.specs.MasterCalls.{onMaster, masterMake, masterPut, masterTake, masterOrder, masterResponse, masterSilence, masterRestart, masterClear}
-use Rattle.bitbus.specs.Promises.{Typed, RightSlave, RightMaster, Keeps}
-use Rattle.bitbus.proofs.Laying.{side-length, tail-length}
-use Rattle.bitbus.proofs.ReadBack.{read-back}
+use Rattle.bitbus.specs.Promises.{RightSlave, RightMaster, Keeps}
 use Rattle.bitbus.proofs.Slots.{Slots, Fits, slave-put, slave-take, slave-step, slave-restart, slave-clear, master-put, master-take, master-order, master-response, master-silence, master-restart, master-clear}
 
 -- what holds of the old and of the new holds after a call

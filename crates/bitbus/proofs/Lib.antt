@@ -1,7 +1,4 @@
--- Laws of laying parts over bytes, and the theorems of this room.
-pub mod Laying
-pub mod ReadBack
-pub mod Every
+-- What each call keeps, and the theorems of this room.
 pub mod Slots
 pub mod Keeps
 pub mod Crossing

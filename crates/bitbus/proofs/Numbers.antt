@@ -11,13 +11,13 @@ use Rattle.frame.proofs.Laws.{pick-cases}
 use Rattle.side.specs.Given.{Given, refused, refusing}
 use Rattle.slave.proofs.Numbers.{numbers as slave}
 use Rattle.master.proofs.Numbers.{numbers as master}
+use Rattle.layout.specs.SlaveLayout.{slaveAt}
+use Rattle.layout.specs.MasterLayout.{masterAt}
+use Rattle.layout.proofs.Every.{slave-two, master-two}
 use Rattle.bitbus.specs.Control.{meaningOf}
-use Rattle.bitbus.specs.SlaveLayout.{slaveAt}
-use Rattle.bitbus.specs.MasterLayout.{masterAt}
 use Rattle.bitbus.specs.SlaveCalls.{slaveMake, slavePut, slaveTake, slaveStep, slaveRestart, slaveClear}
 use Rattle.bitbus.specs.MasterCalls.{masterMake, masterPut, masterTake, masterOrder, masterResponse, masterSilence, masterRestart, masterClear}
 use Rattle.bitbus.specs.Promises.{Numbers}
-use Rattle.bitbus.proofs.Every.{slave-two, master-two}
 
 -- 30 of bytes that are no end, before the numbers of the call
 before : {A : Type 0} {n : ℕ} (b : List ℕ) (g : Given A (List ℕ)) (ks : List ℕ) → (n ≡ 0) ⊎ (n ≡ 30) → Lists (30 ∷ ks) (g .answer) → Lists (30 ∷ ks) (refusing n b g .answer)

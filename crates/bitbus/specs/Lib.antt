@@ -1,7 +1,4 @@
 -- The definitions that the promises of this room cite.
-pub mod Layout
-pub mod SlaveLayout
-pub mod MasterLayout
 pub mod Control
 pub mod Call
 pub mod SlaveCalls

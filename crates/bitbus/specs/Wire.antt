@@ -4,7 +4,7 @@ use mathlib.Core.Bool.{Bool}
 use mathlib.Core.List.{List, [], _∷_}
 use Rattle.frame.specs.declared.Meaning.{Meaning}
 use Rattle.writer.specs.Write.{Report}
-use Rattle.bitbus.specs.Layout.{markByte}
+use Rattle.layout.specs.Layout.{markByte}
 use Rattle.bitbus.specs.Control.{controlOf}
 
 -- the values of writing: line bits, inserted zeros

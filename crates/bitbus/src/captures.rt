@@ -1,13 +1,12 @@
 // The exported functions of captures: one record, and the listing.
 use crate::code;
-use capture::listing;
-use capture::listing::Listed;
 use capture::records;
 use capture::records::Found;
 use capture::records::Frame;
+use listing::Listed;
 ghost use mathlib.Core.Path.{_≡_};
 ghost use lib.ListN.{length};
-ghost use Rattle.capture.specs.Listing.{listBytes, listed, listOf};
+ghost use Rattle.listing.specs.Listing.{listBytes, listed, listOf};
 ghost use Rattle.capture.specs.Record.{found, recordAt};
 ghost use Rattle.bitbus.specs.Call.{after, number};
 ghost use Rattle.bitbus.specs.Captures.{frameValues, listValues, recordValues};

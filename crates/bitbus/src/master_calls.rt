@@ -1,6 +1,6 @@
 // The exported calls on a master, which lies in lent bytes: read, called, and written back unless the call is refused.
 use crate::code;
-use crate::master_layout;
+use layout::master_layout;
 use master::Master;
 use master::MasterDone;
 use master::MasterTake;
@@ -15,9 +15,9 @@ ghost use lib.ListN.{length};
 ghost use Rattle.master.specs.Master.{doneGiven, takeGiven};
 ghost use Rattle.master.specs.Order.{orderGiven};
 ghost use Rattle.master.specs.Response.{responseGiven};
+ghost use Rattle.layout.specs.MasterLayout.{masterBytes};
 ghost use Rattle.bitbus.specs.Call.{after, lineValues, number, takeValues, written};
 ghost use Rattle.bitbus.specs.MasterCalls.{masterClear, masterMake, masterOrder, masterOrderOut, masterPut, masterResponse, masterRestart, masterSilence, masterTake, masterTakeOut, responseValues};
-ghost use Rattle.bitbus.specs.MasterLayout.{masterBytes};
 
 // Makes a fresh master: 8, 15.
 #[no_mangle]

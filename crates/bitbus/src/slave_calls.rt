@@ -1,6 +1,6 @@
 // The exported calls on a slave, which lies in lent bytes: read, called, and written back unless the call is refused.
 use crate::code;
-use crate::slave_layout;
+use layout::slave_layout;
 use side::answer::Outcome;
 use side::answer::TakeAnswer;
 use slave::Slave;
@@ -12,9 +12,9 @@ ghost use mathlib.Core.Path.{_≡_};
 ghost use lib.ListN.{length};
 ghost use Rattle.slave.specs.Slave.{doneGiven, takeGiven};
 ghost use Rattle.slave.specs.Step.{stepGiven};
+ghost use Rattle.layout.specs.SlaveLayout.{slaveBytes};
 ghost use Rattle.bitbus.specs.Call.{after, number, stepValues, takeValues, written};
 ghost use Rattle.bitbus.specs.SlaveCalls.{slaveClear, slaveMake, slavePut, slaveRestart, slaveStep, slaveStepOut, slaveTake, slaveTakeOut};
-ghost use Rattle.bitbus.specs.SlaveLayout.{slaveBytes};
 
 // Makes a fresh slave: 8.
 #[no_mangle]

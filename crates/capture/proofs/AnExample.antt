@@ -1,18 +1,12 @@
--- Document 01's worked example, and the empty capture.
+-- Two records of document 01's worked input.
 -- Assumes nothing.
 use mathlib.Core.Path.{refl}
 use Rattle.frame.specs.Control.{byteOf, known, decodeOf}
 use Rattle.frame.specs.Message.{messageRefusal}
-use Rattle.frame.specs.Refusal.{addressRefusal, noneRefusal, informationRefusal}
-use Rattle.capture.specs.Decimal.{digits, decimal}
+use Rattle.frame.specs.Refusal.{addressRefusal, informationRefusal}
 use Rattle.capture.specs.Record.{pairAt, kindRefusal, formRefusal, withInformation, frameIn, recordOf, recordAt}
-use Rattle.capture.specs.Listing.{linesFrom, linesOf, listing}
-use Rattle.capture.specs.Promises.{Worked, Empty}
+use Rattle.capture.specs.Promises.{Worked}
 
 pub worked : Worked
-unfolding listing linesOf linesFrom recordAt recordOf formRefusal kindRefusal pairAt frameIn withInformation addressRefusal informationRefusal noneRefusal messageRefusal decodeOf known byteOf decimal digits
-worked = refl
-
-pub empty : Empty
-unfolding listing linesOf linesFrom
-empty = refl
+unfolding recordAt recordOf formRefusal kindRefusal pairAt frameIn withInformation addressRefusal informationRefusal messageRefusal decodeOf known byteOf
+worked = (refl, refl)

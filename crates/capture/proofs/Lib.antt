@@ -1,11 +1,6 @@
--- Laws of records, decimal numbers and texts, and the theorems of this room.
+-- Laws of records, and the theorems of this room.
 pub mod AnExample
 pub mod Forms
-pub mod Digits
-pub mod Putting
-pub mod Lines
+pub mod Standing
 pub mod Numbers
 pub mod Settled
-pub mod Bound
-pub mod Least
-pub mod Listings

@@ -1,4 +1,4 @@
--- Each call gives the numbers of its list and no other.
+-- Reading a record gives the numbers of its list and no other.
 -- Assumes nothing.
 use Prim.Native.Nat.{ℕ, _+_, _-_}
 use mathlib.Core.Path.{_≡_, refl}
@@ -14,7 +14,6 @@ use Rattle.frame.proofs.Laws.{pick-both, pick-cases, pick-among, unless-lists}
 use Rattle.frame.proofs.Numbers.{numbers as frame-numbers}
 use Rattle.capture.specs.declared.records.Frame.{Frame}
 use Rattle.capture.specs.Record.{lengthOf, kindOf, bodyOf, kindRefusal, formRefusal, withInformation, withControl, frameIn, Step, framed, recordOf, recordAt}
-use Rattle.capture.specs.Listing.{listing, outputRefusal, listOf}
 use Rattle.capture.specs.Promises.{Numbers, recordNumbers}
 
 kind-numbers : (kind size : ℕ) → Among (kindRefusal kind size) (0 ∷ recordNumbers)
@@ -66,9 +65,9 @@ framed-numbers : (kind next : ℕ) (x : Answer Frame) → Lists recordNumbers x 
 framed-numbers kind next (gives f) l = tt
 framed-numbers kind next (refuses n) l = l
 
-pub record-numbers : (capture : List ℕ) (at : ℕ) → Lists recordNumbers (recordAt capture at)
+pub numbers : Numbers
 unfolding recordAt recordOf
-record-numbers capture at =
+numbers capture at =
     let left = drop at capture in
     let Listed : Answer Step → Type 0 = λ (x : Answer Step). Lists recordNumbers x in
     pick-both Listed (eqb (length left) 0) _ _ tt
@@ -79,11 +78,3 @@ record-numbers capture at =
     other : {n : ℕ} → (n ≡ 0 → ⊥) → Among n (0 ∷ recordNumbers) → Among n recordNumbers
     other z (here e) = absurd (z e)
     other z (there m) = m
-
-output-numbers : (text : List ℕ) (room : ℕ) → Among (outputRefusal text room) (0 ∷ 11 ∷ [])
-unfolding outputRefusal
-output-numbers text room = pick-among (ltb room (length text)) (there (here refl)) (here refl)
-
-pub numbers : Numbers
-unfolding listOf
-numbers = record { read = record-numbers; list = λ capture room. unless-lists (length (listing capture)) (output-numbers (listing capture) room) }

@@ -1,7 +1,3 @@
 -- The definitions that the promises of this room cite.
 pub mod Record
-pub mod Text
-pub mod Decimal
-pub mod Listing
-pub mod Put
 pub mod Promises

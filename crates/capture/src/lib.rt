@@ -1,4 +1,2 @@
-// Captures: reading one record at a place, and the listing of a whole capture as text.
-pub mod listing;
+// Captures: the record at a place.
 pub mod records;
-mod text;

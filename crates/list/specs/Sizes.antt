@@ -1,7 +1,7 @@
 -- Sizes that stay within the bytes they count.
 use Prim.Native.Nat.{ℕ, _≤_}
-use Rattle.capture.specs.declared.listing.Listed.{Listed}
-use Rattle.capture.specs.declared.listing.Listed.the-variants.{Text, Refused}
+use Rattle.listing.specs.declared.Listed.{Listed}
+use Rattle.listing.specs.declared.Listed.the-variants.{Text, Refused}
 use Rattle.list.specs.declared.Input.{Input}
 use Rattle.list.specs.declared.Input.the-variants.{Bytes, Failed}
 

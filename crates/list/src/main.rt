@@ -1,10 +1,8 @@
 // The program "list": reads a capture on standard input and writes its listing on standard output.
-use capture::listing;
-use capture::listing::Listed;
 use libc::STDERR_FILENO;
 use libc::STDIN_FILENO;
 use libc::STDOUT_FILENO;
-ghost use mathlib.Core.Path.{_≡_};
+use listing::Listed;
 ghost use Prim.Native.Nat.{_≤_};
 ghost use lib.ListN.{length};
 ghost use Rattle.list.specs.Sizes.{Inside, Holds};

@@ -1,7 +1,7 @@
 -- `bitbus::captures::finish_list` meets its contract.
 -- Assumes nothing.
 use mathlib.Core.Path.{_≡_}
-use Rattle.capture.specs.declared.listing.Listed.the-variants.{Text}
+use Rattle.listing.specs.declared.Listed.the-variants.{Text}
 use borrow.Author.Needs.{needs}
 use Rattle.bitbus.proofs.captures.finish_list.Statement.{statement}
 use Rattle.bitbus.proofs.captures.finish_list.Tie as tie

@@ -13,7 +13,7 @@ dropped-requires c κs = search needs
 
 returns : tie.Need-returns
 unfolding synchronised
-returns c = rw (c .before .if1 .taken) cc
+returns c = rw (c .before .if1 .taken, c .dropped .ensures, c .before .before .restarted .ensures)
 
 returns-2 : tie.Need-returns-2
 unfolding synchronised

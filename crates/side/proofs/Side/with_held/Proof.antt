@@ -8,7 +8,7 @@ filled-requires : tie.Need-filled-requires
 filled-requires c κs = search needs
 
 returns : tie.Need-returns
-returns c = cc
+returns c = rw (c .filled .ensures)
 
 pub with-held-spec : {M : Type 1} → statement M
 with-held-spec = tie.close (tie.spec filled-requires returns)

@@ -12,7 +12,7 @@ copy-requires : tie.Need-copy-requires
 copy-requires c κs = search needs
 
 returns : tie.Need-returns
-returns c = cc (take-length (c .before .before .before .before .args .message .now))
+returns c = rw (take-length (c .before .before .before .before .args .message .now)) at (c .before .copy .ensures .1)
 
 pub filled-spec : {M : Type 1} → statement M
 filled-spec = tie.close (tie.spec slice-aggregate-copy copy-requires returns)

@@ -1,0 +1,5 @@
+-- The definitions that the promises of this room cite.
+pub mod Layout
+pub mod SlaveLayout
+pub mod MasterLayout
+pub mod Promises

@@ -1,0 +1,32 @@
+-- What is promised of this room beside each function's contract. The proofs stand in proofs/ReadBack and Every.
+use Prim.Native.Nat.{ℕ, _<_, _^_}
+use mathlib.Core.Path.{_≡_}
+use mathlib.Core.Logic.{_⊎_}
+use mathlib.Core.List.{List}
+use lib.ListN.{length, getD}
+use Rattle.side.specs.declared.Side.{Side}
+use Rattle.slave.specs.declared.Slave.{Slave}
+use Rattle.master.specs.declared.Master.{Master}
+use Rattle.layout.specs.SlaveLayout.{slaveAt, slaveBytes, slaveWrong}
+use Rattle.layout.specs.MasterLayout.{masterAt, masterBytes, masterWrong}
+
+-- what the code's types say of a side: 253 bytes in each slot, and sizes of eight bytes
+pub record Typed (s : Side) : Type 0 where
+  pub held : length (s .held) ≡ 253
+  pub incoming : length (s .incoming) ≡ 253
+  pub holds : s .holds < 2 ^ 64
+  pub waits : s .waits < 2 ^ 64
+
+-- reading back what was written gives the same end, for every end, right or not
+pub record ReadBack : Type 0 where
+  pub slave : (s : Slave) → Typed (s .side) → (slaveWrong (slaveBytes s) ≡ 0) × (slaveAt (slaveBytes s) ≡ s)
+  pub master : (m : Master) → Typed (m .side) → m .tick < 2 ^ 32 → m .limit < 2 ^ 32 → (masterWrong (masterBytes m) ≡ 0) × (masterAt (masterBytes m) ≡ m)
+
+-- each element is a byte
+abbrev pub Bytes : List ℕ → Type 0
+Bytes b = (i : ℕ) → getD b i 0 < 256
+
+-- every byte string of the size is refused by 30, or is an end, and then the bytes of that end
+pub record Every : Type 0 where
+  pub slave : (b : List ℕ) → length b ≡ 528 → Bytes b → (slaveWrong b ≡ 30) ⊎ ((slaveWrong b ≡ 0) × (slaveBytes (slaveAt b) ≡ b))
+  pub master : (b : List ℕ) → length b ≡ 538 → Bytes b → (masterWrong b ≡ 30) ⊎ ((masterWrong b ≡ 0) × (masterBytes (masterAt b) ≡ b))

@@ -1,0 +1,10 @@
+-- Laws of decimal numbers, texts and lines, and the theorems of this room.
+pub mod AnExample
+pub mod Digits
+pub mod Putting
+pub mod Lines
+pub mod Numbers
+pub mod Settled
+pub mod Bound
+pub mod Least
+pub mod Listings
