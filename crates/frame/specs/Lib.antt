@@ -2,6 +2,7 @@
 pub mod Pick
 pub mod Answer
 pub mod Control
+pub mod Carried
 pub mod Message
 pub mod Refusal
 pub mod Promises

@@ -11,6 +11,7 @@ use lib.Seq.{take-append-seam, getD-append-seam, getD-append-add, getD-drop}
 use borrow.Author.Tests.{eq-eqb, ne-eqb, le-ltb, eqb-true, ltb-false}
 use Rattle.frame.specs.Pick.{pick, _then_}
 use Rattle.frame.specs.Answer.{Answer, gives, refuses, unless}
+use Rattle.frame.specs.Carried.{Carried}
 use Rattle.frame.specs.Control.{byteOf, decodeOf, countRefusal, countsRefusal}
 use Rattle.frame.specs.Message.{informationIn}
 use Rattle.frame.specs.Refusal.{addressRefusal, informationRefusal, frameRefusal}
@@ -34,7 +35,7 @@ use Rattle.writer.proofs.Lining.{length-content, laid-bits}
 use Rattle.writer.proofs.Writing.{write-within}
 use Rattle.reader.specs.Places.{Flag}
 use Rattle.reader.specs.Flags.{Heard, nothing, content, heard}
-use Rattle.reader.specs.Read.{Carried, _before_, removalRefusal, checkRefusal, bytesIn, meant, frameAnswer, contentAnswer, judged, fitting, readOf, told, outAfter}
+use Rattle.reader.specs.Read.{_before_, removalRefusal, checkRefusal, bytesIn, meant, frameAnswer, contentAnswer, judged, fitting, readOf, told, outAfter}
 use Rattle.reader.specs.Promises.{ReadAllowed}
 use Rattle.reader.specs.declared.Reading.{Reading}
 use Rattle.reader.specs.declared.Reading.the-variants.{Frame}
@@ -42,15 +43,15 @@ use Rattle.reader.proofs.Answers.{read-loses-nothing}
 use Rattle.reader.proofs.Judging.{before-passes, removal-passed}
 use Rattle.reader.proofs.Windows.{flag-within}
 use Rattle.reader.proofs.Enclosed.{enclosed-heard, heard-quiet}
-use Rattle.line.specs.RoundTrip.{Bytes, WrittenIsRead, CallsFit, ReadIsWritten, ContentIsWritten}
+use Rattle.line.specs.RoundTrip.{Bytes, WrittenIsRead, CallsFit, ReadIsWritten, ContentIsWritten, CallsGive}
 
 -- ---- bytes
 
-bytes-cons : (a : ℕ) (x : List ℕ) → a < 256 → Bytes x → Bytes (a ∷ x)
+pub bytes-cons : (a : ℕ) (x : List ℕ) → a < 256 → Bytes x → Bytes (a ∷ x)
 bytes-cons a x h b zero = h
 bytes-cons a x h b (suc i) = b i
 
-bytes-append : (x y : List ℕ) → Bytes x → Bytes y → Bytes (x ++ y)
+pub bytes-append : (x y : List ℕ) → Bytes x → Bytes y → Bytes (x ++ y)
 bytes-append [] y b c i = c i
 bytes-append (a ∷ x) y b c zero = b 0
 bytes-append (a ∷ x) y b c (suc i) = bytes-append x y (λ k. b (suc k)) c i
@@ -282,14 +283,16 @@ module _ (address : ℕ) (m : Meaning) (info : List ℕ) (ha : addressRefusal ad
   line-heard lead rest free = enclosed-heard lead (insert 0 (bitsOf frame)) rest free not-empty (no-six-ones (bitsOf frame) .0)
 
   read-back : (lead rest : List Bool) → ((p : ℕ) → Flag lead p → ⊥) → (buffer : List ℕ) (bits room : ℕ) → bitCountRefusal (length buffer) bits ≡ 0
-      → take bits (bitsOf buffer) ≡ lead ++ (line frame ++ rest) → length info ≤ room → readOf buffer bits room ≡ gives carried
+      → take bits (bitsOf buffer) ≡ lead ++ (line frame ++ rest) → readOf buffer bits room ≡ fitting room (gives carried)
   unfolding readOf
-  read-back lead rest free buffer bits room z e h =
+  read-back lead rest free buffer bits room z e =
       before-passes (bitCountRefusal (length buffer) bits) _ z
       ∙ ap (λ (x : List Bool). fitting room (judged (heard x))) e
       ∙ ap (λ (x : Heard). fitting room (judged x)) (line-heard lead rest free)
       ∙ ap (fitting room) frame-judged
-      ∙ ap (λ (t : Bool). unless (pick t 11 0) carried) (le-ltb room (length info) h)
+
+  fits : (room : ℕ) → length info ≤ room → fitting room (gives carried) ≡ gives carried
+  fits room h = ap (λ (t : Bool). unless (pick t 11 0) carried) (le-ltb room (length info) h)
 
   outcome : (buffer : List ℕ) (bits : ℕ) (out : List ℕ) (r : Reading) (after : List ℕ) → readOf buffer bits (length out) ≡ gives carried → ReadAllowed buffer bits out r after
       → (r ≡ Frame address m (length info)) × (after ≡ info ++ drop (length info) out)
@@ -300,7 +303,8 @@ module _ (address : ℕ) (m : Meaning) (info : List ℕ) (ha : addressRefusal ad
 
 pub written-is-read : WrittenIsRead
 written-is-read address m info ha hf hb lead rest free buffer bits z e out r after h a =
-    outcome address m info ha hf hb buffer bits out r after (read-back address m info ha hf hb lead rest free buffer bits (length out) z e h) a
+    outcome address m info ha hf hb buffer bits out r after
+    (read-back address m info ha hf hb lead rest free buffer bits (length out) z e ∙ fits address m info ha hf hb (length out) h) a
 
 pub read-is-written : ReadIsWritten
 unfolding readOf frameRefusal
@@ -355,10 +359,21 @@ module _ (address : ℕ) (m : Meaning) (info old buffer : List ℕ) (bits zeros 
       let enough : bits ≤ 8 * length buffer = omega (arith, ap length line-there, is-bits, length-take bits (bitsOf buffer), length-bitsOf buffer) in
       rw (le-ltb 8192 bits (omega (arith, within .bits)), le-ltb (8 * length buffer) bits enough)
 
+-- in no bits stands no flag
+no-flag : (p : ℕ) → Flag [] p → ⊥
+no-flag p f = omega (arith, flag-within [] p f)
+
 pub calls-fit : CallsFit
 calls-fit address m info old buffer bits zeros hb w out r after h a =
     let taken = taken address m info old buffer bits zeros w in
-    written-is-read address m info (taken .0) (taken .1) hb [] [] (λ p f. omega (arith, flag-within [] p f)) buffer bits
+    written-is-read address m info (taken .0) (taken .1) hb [] [] no-flag buffer bits
     (count-right address m info old buffer bits zeros w)
     (line-there address m info old buffer bits zeros w ∙ sym (append-nil (line (contentOf address m info))))
     out r after h a
+
+pub calls-give : CallsGive
+calls-give address m info old r hb e room =
+    let w : WriteAllowed address m info old (Line (r .bits) (r .zeros)) (writeBytes address m info old) = record { answer = sym e; bytes = refl } in
+    let taken = taken address m info old _ (r .bits) (r .zeros) w in
+    read-back address m info (taken .0) (taken .1) hb [] [] no-flag _ (r .bits) room (count-right address m info old _ (r .bits) (r .zeros) w)
+    (line-there address m info old _ (r .bits) (r .zeros) w ∙ sym (append-nil (line (contentOf address m info))))

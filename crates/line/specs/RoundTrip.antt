@@ -5,17 +5,18 @@ use mathlib.Core.Bool.{Bool}
 use mathlib.Core.List.{List, _++_}
 use lib.ListN.{length, getD, take, drop}
 use Rattle.frame.specs.Answer.{gives}
+use Rattle.frame.specs.Carried.{Carried}
 use Rattle.frame.specs.Refusal.{addressRefusal, frameRefusal}
 use Rattle.frame.specs.declared.Meaning.{Meaning}
 use Rattle.bits.specs.Bits.{bitsOf}
 use Rattle.bits.specs.Insert.{insert, remove, ending}
 use Rattle.bits.specs.Count.{bitCountRefusal}
-use Rattle.writer.specs.Write.{line, contentOf}
+use Rattle.writer.specs.Write.{line, contentOf, Report, writeOf, writeBytes}
 use Rattle.writer.specs.Promises.{WriteAllowed}
 use Rattle.writer.specs.declared.Written.the-variants.{Line}
 use Rattle.reader.specs.Flags.{content, heard}
 use Rattle.reader.specs.Places.{Flag}
-use Rattle.reader.specs.Read.{Carried, removalRefusal, bytesIn, readOf}
+use Rattle.reader.specs.Read.{removalRefusal, bytesIn, fitting, readOf}
 use Rattle.reader.specs.Promises.{ReadAllowed}
 use Rattle.reader.specs.declared.Reading.{Reading}
 use Rattle.reader.specs.declared.Reading.the-variants.{Frame}
@@ -41,6 +42,12 @@ CallsFit =
     (address : ℕ) (m : Meaning) (info old buffer : List ℕ) (bits zeros : ℕ) → Bytes info → WriteAllowed address m info old (Line bits zeros) buffer
     → (out : List ℕ) (r : Reading) (after : List ℕ) → length info ≤ length out → ReadAllowed buffer bits out r after
     → (r ≡ Frame address m (length info)) × (after ≡ info ++ drop (length info) out)
+
+-- The same in the reader's definition: for an output of any room, the frame that was written, or 11.
+abbrev pub CallsGive : Type 0
+CallsGive =
+    (address : ℕ) (m : Meaning) (info old : List ℕ) (r : Report) → Bytes info → writeOf address m info (length old) ≡ gives r → (room : ℕ)
+    → readOf (writeBytes address m info old) (r .bits) room ≡ fitting room (gives (record { address = address; meaning = m; information = info }))
 
 -- Second half. Whatever is read, the writer takes: it passes 8, and 9, 10, 12.
 -- And the content that the writer makes of it, with its inserted zeros, is bit for bit the content that was found between the flags.

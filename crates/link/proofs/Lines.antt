@@ -27,7 +27,8 @@ use Rattle.delivery.specs.Runs.{logConfirmed, logHanded}
 use Rattle.delivery.specs.Exchanges.{begins, ends, neither}
 use Rattle.delivery.specs.Exchanges as exchanges
 use Rattle.link.specs.Ends.{Arrays, rules, frameOf, slaveOf, masterOf}
-use Rattle.link.specs.Runs.{Carried, OnLine, quiet, asks, answers, World, order, arrives, hears, foreign, silence, bears, onLine, orderLine, answered, arrive, concluded, hear, step, lineOf, overLists}
+use Rattle.frame.specs.Carried.{Carried}
+use Rattle.link.specs.Runs.{OnLine, quiet, asks, answers, World, order, arrives, hears, foreign, silence, bears, onLine, orderLine, answered, arrive, concluded, hear, step, lineOf, overLists}
 use Rattle.link.specs.Exchanges.{beginning, ending, hearing}
 use Rattle.link.proofs.Does.{Does, refusing-cases, confirmed-nothing, handed-nothing}
 use Rattle.link.proofs.Sides.{front}

@@ -34,7 +34,8 @@ use Rattle.master.specs.declared.Master.{Master}
 use Rattle.master.specs.declared.order.Ordered.{Ordered}
 use Rattle.master.proofs.Keeps as master-keeps
 use Rattle.delivery.specs.Exchanges.{begins, ends, neither, uncounted}
-use Rattle.link.specs.Runs.{Carried, carried, asks, World, Event, order, arrives, hears, onLine, orderLine, answered, step, overLists}
+use Rattle.frame.specs.Carried.{Carried}
+use Rattle.link.specs.Runs.{carried, asks, World, Event, order, arrives, hears, onLine, orderLine, answered, step, overLists}
 use Rattle.link.specs.Exchanges.{beginning, ending, turn, wholes}
 use Rattle.link.specs.Through.{ComesThrough}
 use Rattle.link.proofs.Sides.{front}
@@ -56,7 +57,7 @@ module _ (m : Master) (tick : ℕ) where
       go Connecting = (refl, refl)
       go Linked = (refl, refl)
 
-  order-address : orders m tick .line .address ≡ m .address
+  pub order-address : orders m tick .line .address ≡ m .address
   unfolding orders inLinked
   order-address = go (m .mode)
     where
@@ -89,7 +90,7 @@ module _ (s : Slave) (f : Meaning) (k : List ℕ) where
   heard-address t Irrecoverable = refl
   heard-address t (Accepted confirmed handed) = refl
 
-  moved-address : moved s f k .line .address ≡ s .address
+  pub moved-address : moved s f k .line .address ≡ s .address
   unfolding moved inNrm
   moved-address = go (s .mode)
     where

@@ -7,6 +7,7 @@ use lib.Dec.{eqb}
 use lib.ListN.{length, take}
 use Rattle.frame.specs.Pick.{pick}
 use Rattle.frame.specs.Answer.{Answer, gives, refuses}
+use Rattle.frame.specs.Carried.{Carried}
 use Rattle.frame.specs.declared.Meaning.{Meaning}
 use Rattle.side.specs.Given.{Given}
 use Rattle.side.specs.declared.answer.Change.the-variants.{Same}
@@ -26,11 +27,6 @@ use Rattle.link.specs.Ends.{Arrays, message, frameOf, slaveOf, masterOf}
 
 -- What a call has put on the line: the address and the meaning that it told, and its information, which is as many bytes as it told from the front
 -- of the buffer lent to it.
-pub record Carried : Type 0 where
-  pub address : ℕ
-  pub meaning : Meaning
-  pub information : List ℕ
-
 abbrev pub carried : Line → List ℕ → Carried
 carried l buffer = record { address = l .address; meaning = l .meaning; information = take (l .size) buffer }
 

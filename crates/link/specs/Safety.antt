@@ -8,7 +8,8 @@ use Rattle.slave.specs.declared.Mode.the-variants.{Nrm}
 use Rattle.master.specs.declared.Mode.the-variants.{Linked}
 use Rattle.delivery.specs.Link.{Message}
 use Rattle.link.specs.Ends.{message}
-use Rattle.link.specs.Runs.{Carried, answers, World, Event, run, Sized}
+use Rattle.frame.specs.Carried.{Carried}
+use Rattle.link.specs.Runs.{answers, World, Event, run, Sized}
 use Rattle.link.specs.Start.{Start}
 
 -- "the messages handed over since that moment are those confirmed to their sender since, in order, followed at most by the one still held"

@@ -9,6 +9,7 @@ use borrow.Author.Tests.{eqb-false}
 use lib.ListN.{length, getD, take}
 use Rattle.frame.specs.Pick.{pick}
 use Rattle.frame.specs.Answer.{Answer, gives, refuses, Among, Lists}
+use Rattle.frame.specs.Carried.{Carried}
 use Rattle.frame.specs.Control.{decodeOf}
 use Rattle.frame.specs.Message.{informationIn}
 use Rattle.frame.specs.Refusal.{addressRefusal, informationRefusal}
@@ -21,7 +22,7 @@ use Rattle.bits.specs.Check.{checkWord}
 use Rattle.bits.specs.Insert.{remove, ending}
 use Rattle.bits.specs.Count.{bitCountRefusal}
 use Rattle.reader.specs.Flags.{Heard, nothing, content, heard}
-use Rattle.reader.specs.Read.{Carried, _before_, meant, fitting, told, readingGives, removalRefusal, checkRefusal, bytesIn, frameAnswer, contentAnswer, judged, readOf}
+use Rattle.reader.specs.Read.{_before_, meant, fitting, told, readingGives, removalRefusal, checkRefusal, bytesIn, frameAnswer, contentAnswer, judged, readOf}
 use Rattle.reader.specs.Promises.{ReadNumbers, ReadLosesNothing, ReadSettled}
 use Rattle.reader.specs.declared.Reading.the-variants.{Frame, Refused}
 

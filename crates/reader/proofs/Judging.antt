@@ -11,6 +11,7 @@ use lib.Seq.{take-length}
 use borrow.Author.Tests.{ne-eqb, lt-ltb, le-ltb, eqb-true, eqb-false, ltb-false}
 use Rattle.frame.specs.Pick.{pick}
 use Rattle.frame.specs.Answer.{Answer, gives, refuses, unless}
+use Rattle.frame.specs.Carried.{Carried}
 use Rattle.frame.specs.Control.{decodeOf}
 use Rattle.frame.specs.Message.{informationIn}
 use Rattle.frame.specs.Refusal.{addressRefusal, informationRefusal}
@@ -22,7 +23,7 @@ use Rattle.bits.specs.Check.{checkWord}
 use Rattle.bits.specs.Count.{bitCountRefusal}
 use Rattle.reader.specs.Extract.{Removed}
 use Rattle.reader.specs.Flags.{Heard, heard}
-use Rattle.reader.specs.Read.{Carried, _before_, meant, fitting, told, outAfter, readingGives, removalRefusal, checkRefusal, bytesIn, frameAnswer, contentAnswer, judged, readOf}
+use Rattle.reader.specs.Read.{_before_, meant, fitting, told, outAfter, readingGives, removalRefusal, checkRefusal, bytesIn, frameAnswer, contentAnswer, judged, readOf}
 use Rattle.reader.specs.declared.Reading.{Reading}
 use Rattle.reader.specs.declared.Reading.the-variants.{Frame, Refused}
 

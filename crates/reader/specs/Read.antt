@@ -9,6 +9,7 @@ use Rattle.frame.specs.Answer.{Answer, gives, refuses, unless}
 use Rattle.frame.specs.Control.{decodeOf}
 use Rattle.frame.specs.Message.{informationIn}
 use Rattle.frame.specs.Refusal.{addressRefusal, informationRefusal}
+use Rattle.frame.specs.Carried.{Carried}
 use Rattle.frame.specs.declared.Meaning.{Meaning}
 use Rattle.bits.specs.Bits.{bitsOf, bytesOf}
 use Rattle.bits.specs.Insert.{remove, ending}
@@ -17,12 +18,6 @@ use Rattle.bits.specs.Count.{bitCountRefusal}
 use Rattle.reader.specs.Flags.{Heard, nothing, content, heard}
 use Rattle.reader.specs.declared.Reading.{Reading}
 use Rattle.reader.specs.declared.Reading.the-variants.{Frame, Refused}
-
--- what a frame carries
-pub record Carried : Type 0 where
-  pub address : ℕ
-  pub meaning : Meaning
-  pub information : List ℕ
 
 infixr 20 _before_
 -- "Order of tests": a number that was found comes before the answer of the later tests (0: none was)

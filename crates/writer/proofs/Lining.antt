@@ -47,7 +47,7 @@ module _ {old o1 o2 o3 : List ℕ} {s1 s2 s3 : Sink} (content : List ℕ) where
       (added-on (added-on a b) c)
 
 -- the first bytes of bytes are bytes
-take-small : (n : ℕ) (o : List ℕ) → ((i : ℕ) → getD o i 0 < 256) → (i : ℕ) → getD (take n o) i 0 < 256
+pub take-small : (n : ℕ) (o : List ℕ) → ((i : ℕ) → getD o i 0 < 256) → (i : ℕ) → getD (take n o) i 0 < 256
 take-small n o h i = go (ltb i n) refl
   where
     go : (t : Bool) → ltb i n ≡ t → getD (take n o) i 0 < 256

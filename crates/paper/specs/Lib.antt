@@ -1,0 +1,3 @@
+-- The statements of this room.
+pub mod Fit
+pub mod OverBits
