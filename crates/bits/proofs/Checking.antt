@@ -1,4 +1,4 @@
--- The check word's register is linear, so that a table of 256 entries does for eight steps.
+-- The check word's register is linear, so that eight steps are one, which depends on a byte alone.
 -- Assumes nothing.
 use Prim.Native.Nat.{ℕ, zero, suc, _+_, _*_, _/_, _%_, _^_, _≤_, _<_}
 use mathlib.Core.Path.{_≡_, _∙_, refl, sym, ap, ap₂}
@@ -15,8 +15,7 @@ use lib.ListN.{length, getD, drop, drop-of-length-le}
 use lib.Seq.{drop-cons}
 use Rattle.frame.specs.Pick.{pick}
 use Rattle.bits.specs.Bits.{num, odd, low, bitsOf}
-use Rattle.bits.specs.Check.{shifted, register}
-use Rattle.bits.specs.CheckTable.{entry, listed, entries}
+use Rattle.bits.specs.Check.{shifted, register, afterZeros}
 use Rattle.bits.proofs.BitLaws.{num-odd}
 
 -- ---- the sum without carry
@@ -130,9 +129,9 @@ unfolding register low
 register-high zero a = omega arith
 register-high (suc n) a = ap (λ (c : ℕ). register c (low n 0)) (shifted-high a n) ∙ register-high n a
 
--- eight steps by one entry
-pub register-byte : (c x : ℕ) → x < 256 → register c (low 8 x) ≡ bitXor (c / 256) (entry (bitXor (c % 256) x))
-unfolding entry
+-- eight steps in one
+pub register-byte : (c x : ℕ) → x < 256 → register c (low 8 x) ≡ bitXor (c / 256) (afterZeros (bitXor (c % 256) x))
+unfolding afterZeros
 register-byte c x h =
     let parts : bitXor (c / 256 * 2 ^ 8) (c % 256) ≡ c = xor-shifted (c / 256) 8 (c % 256) (omega arith) ∙ div-add-mod' c 256 in
     let upper : register c (low 8 x) ≡ bitXor (register (c / 256 * 2 ^ 8) (low 8 0)) (register (c % 256) (low 8 x)) =
@@ -158,14 +157,3 @@ register-next c i bytes h = rw (drop-cons bytes i 0 h, add-one i) (register-appe
 pub register-done : (c i : ℕ) (bytes : List ℕ) → length bytes ≤ i → register c (bitsOf (drop i bytes)) ≡ c
 unfolding bitsOf register
 register-done c i bytes h = rw (drop-of-length-le bytes h)
-
--- ---- the table
-
-listed-at : (f : ℕ → ℕ) (k n i : ℕ) → i < n → getD (listed f k n) i 0 ≡ f (k + i)
-listed-at f k zero i h = absurd (omega arith)
-listed-at f k (suc n) zero h = ap f (let e : k ≡ k + 0 = omega arith in e)
-listed-at f k (suc n) (suc i) h = listed-at f (suc k) n i (omega arith) ∙ ap f (let e : suc k + i ≡ k + suc i = omega arith in e)
-
-pub entries-at : (i : ℕ) → i < 256 → getD entries i 0 ≡ entry i
-unfolding entries
-entries-at i h = listed-at entry 0 256 i h ∙ ap entry (let e : 0 + i ≡ i = omega arith in e)

@@ -5,7 +5,7 @@ use mathlib.Core.List.{List, [], _∷_}
 use lib.Dec.{eqb}
 use lib.Bits.{bitXor}
 use Rattle.frame.specs.Pick.{pick}
-use Rattle.bits.specs.Bits.{num, bitsOf}
+use Rattle.bits.specs.Bits.{num, bitsOf, low}
 
 -- the register after one bit: shifted down, and the polynomial laid over it (bit-reversed: 8408 hex) where the bit that falls out differs from the line's
 unfoldable pub shifted : ℕ → Bool → ℕ
@@ -15,6 +15,10 @@ shifted c b = pick (eqb (c % 2) (num b)) (c / 2) (bitXor (c / 2) 0x8408)
 unfoldable pub register : ℕ → List Bool → ℕ
 register c [] = c
 register c (b ∷ bs) = register (shifted c b) bs
+
+-- the register after eight zeros
+unfoldable pub afterZeros : ℕ → ℕ
+afterZeros c = register c (low 8 0)
 
 -- the check word of bytes
 unfoldable pub checkWord : List ℕ → ℕ

@@ -4,6 +4,5 @@ pub mod Flag
 pub mod Insert
 pub mod Insertion
 pub mod Check
-pub mod CheckTable
 pub mod Packed
 pub mod Count

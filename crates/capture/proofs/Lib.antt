@@ -3,4 +3,4 @@ pub mod AnExample
 pub mod Forms
 pub mod Standing
 pub mod Numbers
-pub mod Settled
+pub mod LosesNothing

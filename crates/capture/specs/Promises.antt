@@ -1,4 +1,4 @@
--- What is promised of this room beside each function's contract. The proofs stand in proofs/Numbers, Settled and AnExample.
+-- What is promised of this room beside each function's contract. The proofs stand in proofs/Numbers, LosesNothing and AnExample.
 use Prim.Native.Nat.{ℕ}
 use mathlib.Core.Path.{_≡_}
 use mathlib.Core.List.{List, [], _∷_}
@@ -18,10 +18,6 @@ Numbers = (capture : List ℕ) (at : ℕ) → Lists recordNumbers (recordAt capt
 -- the definition that lists an answer's number and values loses nothing
 abbrev pub LosesNothing : Type 0
 LosesNothing = (a b : Found) → found a ≡ found b → a ≡ b
-
--- any two answers that the contract allows are equal
-abbrev pub Settled : Type 0
-Settled = (capture : List ℕ) (at : ℕ) (a b : Found) → found a ≡ recordAt capture at → found b ≡ recordAt capture at → a ≡ b
 
 -- the third and the fourth record of the worked input: an I frame with both counts 0 and five bytes, and a silence
 abbrev pub Worked : Type 0

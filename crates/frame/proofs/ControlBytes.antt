@@ -1,4 +1,4 @@
--- The control byte: 84 known and 172 refused, P5 to P8, and the round trip.
+-- The control byte: 84 known and 172 refused, and the round trip.
 -- Assumes nothing.
 use Prim.Native.Nat.{ℕ, _+_, _*_, _/_, _%_, _≤_, _<_}
 use mathlib.Core.Path.{_≡_, refl, sym, _∙_, ap}
@@ -10,7 +10,7 @@ use borrow.Author.Tests.{eqb-true, ltb-false, le-ltb}
 use Rattle.frame.specs.Pick.{pick}
 use Rattle.frame.specs.Answer.{gives}
 use Rattle.frame.specs.Control.{known, look, byteOf, decodeOf, encodeOf, countRefusal, countsRefusal}
-use Rattle.frame.specs.Promises.{Known84, RoundTrip, Points}
+use Rattle.frame.specs.Promises.{Known84, RoundTrip}
 use Rattle.frame.specs.declared.Meaning.{Meaning}
 use Rattle.frame.specs.declared.Meaning.the-variants.{I, Rr, Rnr, Snrm, Disc, Ua, Frmr}
 use Rattle.frame.proofs.Laws.{pick-second, then-zero, unless-gives}
@@ -19,10 +19,6 @@ use Rattle.frame.proofs.Decoding.{byWhole, by-low}
 pub known-84 : Known84
 unfolding decodeOf known byteOf
 known-84 = (refl, refl)
-
-pub points : Points
-unfolding encodeOf countsRefusal decodeOf known byteOf
-points = (refl, refl, refl, refl, refl, refl)
 
 -- a count that is not refused is at most 7
 pub count-small : (n : ℕ) → countRefusal n ≡ 0 → n ≤ 7

@@ -51,6 +51,10 @@ then-among {a} {b} ks ls p q = pick-among (eqb a 0) (second q) (Memᴰ·append-l
     second (here e) = here e
     second (there m) = there (Memᴰ·append-right ks m)
 
+-- and those of one list where both do
+pub then-both : {ks : List ℕ} {a b : ℕ} → Among a ks → Among b ks → Among (a then b) ks
+then-both {ks} {a} {b} p q = pick-among (eqb a 0) q p
+
 -- an answer gives the numbers of its tests
 pub unless-lists : {A : Type 0} {n : ℕ} (v : A) {ks : List ℕ} → Among n (0 ∷ ks) → Lists ks (unless n v)
 unless-lists {A} {n} v {ks} p = pick-cases (λ (x : Answer A). Lists ks x) (eqb n 0) (gives v) (refuses n) (λ t. tt) (λ t. other (eqb-false n 0 t) p)

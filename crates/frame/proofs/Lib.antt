@@ -6,4 +6,4 @@ pub mod Decoding
 pub mod ControlBytes
 pub mod Messages
 pub mod Numbers
-pub mod Settled
+pub mod LosesNothing

@@ -1,4 +1,4 @@
--- What is promised of this room beside each function's contract. The proofs stand in proofs/ControlBytes, Messages, Numbers and Settled.
+-- What is promised of this room beside each function's contract. The proofs stand in proofs/ControlBytes, Messages, Numbers and LosesNothing.
 use Prim.Native.Nat.{ℕ, zero, suc, _+_, _-_, _≤_}
 use mathlib.Core.Path.{_≡_}
 use mathlib.Core.Logic.{_↔_}
@@ -9,7 +9,6 @@ use Rattle.frame.specs.Control.{countsRefusal, encodeOf, encoded, decode
 use Rattle.frame.specs.Message.{messageRefusal, informationIn, checkOf, checked}
 use Rattle.frame.specs.Refusal.{addressRefusal, informationRefusal, frameRefusal}
 use Rattle.frame.specs.declared.Meaning.{Meaning}
-use Rattle.frame.specs.declared.Meaning.the-variants.{I, Rr, Rnr}
 use Rattle.frame.specs.declared.control.Decoded.{Decoded}
 use Rattle.frame.specs.declared.control.Encoded.{Encoded}
 use Rattle.frame.specs.declared.message.Checked.{Checked}
@@ -32,16 +31,6 @@ abbrev pub RoundTrip : Type 0
 RoundTrip =
     ((m : Meaning) (b : ℕ) → encodeOf m ≡ gives b → decodeOf b ≡ gives m)
     × ((b : ℕ) (m : Meaning) → decodeOf b ≡ gives m → encodeOf m ≡ gives b)
-
--- P5 to P8
-abbrev pub Points : Type 0
-Points =
-    (encodeOf (I (record { 0 = 3 }) (record { 0 = 5 })) ≡ gives 0xB6)
-    × (encodeOf (Rr (record { 0 = 7 })) ≡ gives 0xF1)
-    × (encodeOf (Rnr (record { 0 = 2 })) ≡ gives 0x55)
-    × (decodeOf 0x83 ≡ refuses 9)
-    × (decodeOf 0x19 ≡ refuses 9)
-    × (decodeOf 0x33 ≡ refuses 9)
 
 -- a message that is not refused: 5 to 253 bytes, the first of them the size plus 2, which is the size of the data plus 7
 abbrev pub Right : List ℕ → Type 0

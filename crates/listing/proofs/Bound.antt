@@ -28,7 +28,7 @@ use Rattle.listing.specs.Listing.{name, nsField, nrField, frameLine, ent
 use Rattle.listing.specs.Promises.{Suffices, NeverRefused}
 use Rattle.listing.proofs.Digits.{decimal-one, decimal-more}
 use Rattle.listing.proofs.Lines.{linesAt, Sofar}
-use Rattle.listing.proofs.Settled.{loses-nothing}
+use Rattle.listing.proofs.LosesNothing.{loses-nothing}
 
 -- ten times as many numbers have one digit more
 pub wider : (a k : ℕ) → ((n : ℕ) → n < a → length (decimal n) ≤ k) → 1 ≤ k → (n : ℕ) → n < 10 * a → length (decimal n) ≤ k + 1

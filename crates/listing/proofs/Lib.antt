@@ -4,7 +4,7 @@ pub mod Digits
 pub mod Putting
 pub mod Lines
 pub mod Numbers
-pub mod Settled
+pub mod LosesNothing
 pub mod Bound
 pub mod Least
 pub mod Listings

@@ -1,4 +1,4 @@
--- What is promised of this room beside each function's contract. The proofs stand in proofs/AnExample, Numbers, Settled, Lines, Bound, Least and Digits.
+-- What is promised of this room beside each function's contract. The proofs stand in proofs/AnExample, Numbers, LosesNothing, Lines, Bound, Least and Digits.
 use Prim.Native.Nat.{ℕ, zero, suc, _+_, _*_, _-_, _≤_}
 use mathlib.Core.Path.{_≡_}
 use mathlib.Core.List.{List, [], _∷_}
@@ -17,11 +17,6 @@ Numbers = (capture : List ℕ) (room : ℕ) → Lists (11 ∷ []) (listOf captur
 -- the definition that lists an answer's number and values loses nothing
 abbrev pub LosesNothing : Type 0
 LosesNothing = (a b : Listed) → listed a ≡ listed b → a ≡ b
-
--- any two outcomes that the contract allows are equal
-pub record Settled : Type 0 where
-  pub list : (capture : List ℕ) (room : ℕ) (a b : Listed) → listed a ≡ listOf capture room → listed b ≡ listOf capture room → a ≡ b
-  pub listBytes : (capture out a b : List ℕ) → a ≡ bytesListed capture out → b ≡ bytesListed capture out → a ≡ b
 
 -- the number that digits in ASCII say, after one that came before them
 abbrev pub value : ℕ → List ℕ → ℕ

@@ -2,5 +2,4 @@
 pub mod Keeps
 pub mod Blank
 pub mod Numbers
-pub mod Settled
-pub mod Worked
+pub mod LosesNothing

@@ -7,10 +7,10 @@ use mathlib.Core.List.{List, [], _∷_, List·Memᴰ·head as here, List·Memᴰ
 use lib.Dec.{eqb, ltb}
 use Rattle.frame.specs.Answer.{Among, Lists}
 use Rattle.frame.specs.declared.Meaning.{Meaning}
-use Rattle.frame.proofs.Laws.{pick-both, pick-among, then-among}
+use Rattle.frame.proofs.Laws.{pick-both, pick-among, then-among, then-both}
 use Rattle.frame.proofs.Numbers.{numbers as frame-numbers}
 use Rattle.side.specs.Given.{Given}
-use Rattle.side.proofs.Calls.{refusing-lists, then-both}
+use Rattle.side.proofs.Calls.{refusing-lists}
 use Rattle.side.proofs.Numbers.{numbers as side-numbers, address-wrong-numbers, room-numbers}
 use Rattle.master.specs.Master.{limitRefusal, limitWrong, outerWrong, masterWrong, blank, makeRefusal, makeOf, putOf, takeOf, restartOf, clearOf}
 use Rattle.master.specs.Order.{waitingRefusal, orderRefusal, orderOf}

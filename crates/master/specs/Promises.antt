@@ -1,18 +1,13 @@
--- What is promised of this room beside each function's contract. The proofs stand in proofs/Keeps, Blank, Numbers, Settled and Worked.
+-- What is promised of this room beside each function's contract. The proofs stand in proofs/Keeps, Blank, Numbers and LosesNothing.
 use Prim.Native.Nat.{ℕ}
 use mathlib.Core.Path.{_≡_}
-use mathlib.Core.Bool.{true, false}
 use mathlib.Core.List.{List, [], _∷_}
-use Rattle.frame.specs.Answer.{gives, Among, Lists}
+use Rattle.frame.specs.Answer.{Among, Lists}
 use Rattle.frame.specs.declared.Meaning.{Meaning}
-use Rattle.frame.specs.declared.Meaning.the-variants.{I, Rnr}
-use Rattle.side.specs.Given.{OneOf, refused}
-use Rattle.side.specs.Side.{fresh}
-use Rattle.side.specs.declared.answer.Change.the-variants.{Same}
+use Rattle.side.specs.Given.{refused}
 use Rattle.master.specs.Master.{masterWrong, blank, doneGiven, takeGiven, makeRefusal, makeOf, putOf, takeOf, restartOf, clearOf}
 use Rattle.master.specs.Order.{ordered, orderGiven, orderOf}
-use Rattle.master.specs.Response.{ageOf, brings, reported, responseGiven, responseOf, silenceOf}
-use Rattle.master.specs.declared.Mode.the-variants.{Linked}
+use Rattle.master.specs.Response.{reported, responseGiven, responseOf, silenceOf}
 use Rattle.master.specs.declared.Master.{Master}
 use Rattle.master.specs.declared.MasterDone.{MasterDone}
 use Rattle.master.specs.declared.MasterTake.{MasterTake}
@@ -59,13 +54,6 @@ pub record Numbers : Type 0 where
   pub restart : (m : Master) → Lists (30 ∷ []) (restartOf m .answer)
   pub clear : (m : Master) → Lists (30 ∷ []) (clearOf m .answer)
 
--- any two results that a promise by equation allows are equal
-pub record OneResult : Type 0 where
-  pub done : OneOf doneGiven
-  pub take : OneOf takeGiven
-  pub order : OneOf orderGiven
-  pub response : OneOf responseGiven
-
 -- the definitions that list an answer's number and values lose nothing, and those of whole results neither
 pub record LosesNothing : Type 0 where
   pub ordered : (a b : OrderAnswer) → ordered a ≡ ordered b → a ≡ b
@@ -74,27 +62,3 @@ pub record LosesNothing : Type 0 where
   pub take : (a b : MasterTake) → takeGiven a ≡ takeGiven b → a ≡ b
   pub order : (a b : MasterOrder) → orderGiven a ≡ orderGiven b → a ≡ b
   pub response : (a b : MasterResponse) → responseGiven a ≡ responseGiven b → a ≡ b
-
--- P11: "tick now 3, order at 4,294,967,290: age 9"
-abbrev pub P11 : Type 0
-P11 = ageOf 3 4294967290 ≡ 9
-
--- the worked case: a master of station 5, linked, counts zero, whose owner puts a message of 5 bytes and which orders at tick 0
-abbrev pub linked : Master
-linked = record { side = fresh; mode = Linked; busy = false; waiting = false; tick = 0; limit = 10; address = 5 }
-
-abbrev pub holding : Master
-holding = putOf linked (7 ∷ 0 ∷ 5 ∷ 0x31 ∷ 1 ∷ []) .end
-
-abbrev pub sending : Master
-sending = orderOf holding 0 253 .end
-
-abbrev pub confirmed : Master
-confirmed = responseOf sending 5 (Rnr (record { 0 = 1 })) [] 9 .end
-
--- "New message into an empty slot ..: answer RNR with Nr one higher, which confirms."
-abbrev pub Confirmed : Type 0
-Confirmed =
-    (orderOf holding 0 253 .answer ≡ gives (record { address = 5; meaning = I (record { 0 = 0 }) (record { 0 = 0 }); size = 5 }))
-    × (responseOf sending 5 (Rnr (record { 0 = 1 })) [] 9 .answer ≡ gives (brings (record { confirmed = 5; handed = 0; link = Same })))
-    × (confirmed .side .holds ≡ 0) × (confirmed .side .ns .0 ≡ 1) × (confirmed .busy ≡ true) × (confirmed .waiting ≡ false)

@@ -10,13 +10,12 @@ use lib.ListN.{length, take, drop, length-append, length-drop}
 use lib.Seq.{take-at, drop-at, length-take-le}
 use borrow.Author.Tests.{eq-eqb}
 use Rattle.frame.proofs.Laws.{pick-among, then-among, unless-lists}
-use Rattle.frame.proofs.Settled.{settled as one-answer}
 use Rattle.bits.specs.Bits.{bitsOf, bytesOf}
 use Rattle.bits.specs.Packed.{bytesFor, over}
 use Rattle.bits.specs.Count.{bitCountRefusal}
 use Rattle.bits.proofs.BitLaws.{length-bitsOf, bits-back}
 use Rattle.nrzi.specs.Nrzi.{coding, reached, nrziRefusal, codeOf, codeBytes, coded}
-use Rattle.nrzi.specs.Promises.{ThereAndBack, OutputBits, Numbers, LosesNothing, Settled}
+use Rattle.nrzi.specs.Promises.{ThereAndBack, OutputBits, Numbers, LosesNothing}
 use Rattle.nrzi.specs.declared.Coded.the-variants.{Level, Refused}
 use Rattle.nrzi.proofs.Levels.{bits-again, levels-again, length-coding}
 use Rattle.nrzi.proofs.Laid.{taken}
@@ -52,7 +51,3 @@ loses-nothing (Level l) (Level k) e = let same : l ≡ k = cc in ap Level same
 loses-nothing (Level l) (Refused n) e = cc
 loses-nothing (Refused n) (Level k) e = cc
 loses-nothing (Refused n) (Refused k) e = let same : n ≡ k = cc in ap Refused same
-
-pub settled : Settled
-settled back l input bits out a b x y f g =
-    (one-answer coded loses-nothing (codeOf back l input bits (length out)) a b (f .answer) (g .answer), f .bytes ∙ sym (g .bytes))

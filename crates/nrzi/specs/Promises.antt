@@ -27,14 +27,3 @@ Numbers = (back l : Bool) (input : List ℕ) (bits room : ℕ) → Lists (2 ∷ 
 -- the definition that lists an answer's number and values loses nothing
 abbrev pub LosesNothing : Type 0
 LosesNothing = (a b : Coded) → coded a ≡ coded b → a ≡ b
-
--- an outcome that the contract of either way allows: the answer, and the lent output afterwards
-pub record Allowed (back l : Bool) (input : List ℕ) (bits : ℕ) (out : List ℕ) (a : Coded) (after : List ℕ) : Type 0 where
-  pub answer : coded a ≡ codeOf back l input bits (length out)
-  pub bytes : after ≡ codeBytes back l input bits out
-
--- "Prove that any two outcomes it allows are equal"
-abbrev pub Settled : Type 0
-Settled =
-    (back l : Bool) (input : List ℕ) (bits : ℕ) (out : List ℕ) (a b : Coded) (x y : List ℕ)
-    → Allowed back l input bits out a x → Allowed back l input bits out b y → (a ≡ b) × (x ≡ y)

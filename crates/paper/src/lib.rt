@@ -1,1 +1,1 @@
-// Document 01's table of points, the numbers and outcomes of every call, and how the layers fit. No code of its own.
+// Document 01 held against the definitions and contracts: its points, worked cases and numbers, how tight the promises are, and that the layers fit. Statements in specs/, proofs in proofs/, no code.

@@ -16,14 +16,13 @@ use Rattle.frame.specs.Refusal.{addressRefusal, informationRefusal}
 use Rattle.frame.specs.declared.Meaning.{Meaning}
 use Rattle.frame.proofs.Laws.{pick-cases, pick-among, unless-lists}
 use Rattle.frame.proofs.Numbers.{numbers}
-use Rattle.frame.proofs.Settled.{settled}
 use Rattle.bits.specs.Bits.{bitsOf}
 use Rattle.bits.specs.Check.{checkWord}
 use Rattle.bits.specs.Insert.{remove, ending}
 use Rattle.bits.specs.Count.{bitCountRefusal}
 use Rattle.reader.specs.Flags.{Heard, nothing, content, heard}
 use Rattle.reader.specs.Read.{_before_, meant, fitting, told, readingGives, removalRefusal, checkRefusal, bytesIn, frameAnswer, contentAnswer, judged, readOf}
-use Rattle.reader.specs.Promises.{ReadNumbers, ReadLosesNothing, ReadSettled}
+use Rattle.reader.specs.Promises.{ReadNumbers, ReadLosesNothing}
 use Rattle.reader.specs.declared.Reading.the-variants.{Frame, Refused}
 
 -- ---- numbers
@@ -142,7 +141,3 @@ read-loses-nothing (Frame a m n) (Frame b k l) e =
 read-loses-nothing (Frame a m n) (Refused k) e = cc
 read-loses-nothing (Refused n) (Frame b k l) e = cc
 read-loses-nothing (Refused n) (Refused k) e = let same : n ≡ k = cc in ap Refused same
-
-pub read-settled : ReadSettled
-read-settled buffer bits out r s x y a b =
-    (settled readingGives read-loses-nothing _ r s (a .answer) (b .answer), a .information ∙ sym (b .information))

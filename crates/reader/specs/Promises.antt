@@ -19,9 +19,3 @@ ReadLosesNothing = (r s : Reading) → readingGives r ≡ readingGives s → r �
 pub record ReadAllowed (buffer : List ℕ) (bits : ℕ) (out : List ℕ) (r : Reading) (after : List ℕ) : Type 0 where
   pub answer : readingGives r ≡ told (readOf buffer bits (length out))
   pub information : after ≡ outAfter (readOf buffer bits (length out)) out
-
--- "Prove that any two outcomes it allows are equal"
-abbrev pub ReadSettled : Type 0
-ReadSettled =
-    (buffer : List ℕ) (bits : ℕ) (out : List ℕ) (r s : Reading) (x y : List ℕ)
-    → ReadAllowed buffer bits out r x → ReadAllowed buffer bits out s y → (r ≡ s) × (x ≡ y)

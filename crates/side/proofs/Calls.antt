@@ -6,8 +6,7 @@ use mathlib.Core.List.{List, _∷_}
 use lib.Dec.{eqb}
 use borrow.Author.Tests.{eqb-true}
 use Rattle.frame.specs.Answer.{Among, Lists}
-use Rattle.frame.proofs.Laws.{pick-cases, pick-among, unless-lists}
-use Rattle.frame.specs.Pick.{_then_}
+use Rattle.frame.proofs.Laws.{pick-cases, unless-lists}
 use Rattle.side.specs.Given.{Given, refusing}
 
 module _ {A E : Type 0} where
@@ -17,7 +16,3 @@ module _ {A E : Type 0} where
   pub refusing-lists : (ks : List ℕ) (n : ℕ) (e : E) (g : Given A E) → Among n (0 ∷ ks) → Lists ks (g .answer) → Lists ks (refusing n e g .answer)
   refusing-lists ks n e g p q =
       pick-cases (λ (x : Given A E). Lists ks (x .answer)) (eqb n 0) _ _ (λ t. q) (λ t. rw t at (unless-lists {n = n} (tt {0}) p))
-
--- tests in a row give the numbers of one list where both do
-pub then-both : {ks : List ℕ} {a b : ℕ} → Among a ks → Among b ks → Among (a then b) ks
-then-both {ks} {a} {b} p q = pick-among (eqb a 0) q p

@@ -5,5 +5,4 @@ pub mod Calls
 pub mod Keeps
 pub mod Whole
 pub mod Numbers
-pub mod Settled
-pub mod Points
+pub mod LosesNothing

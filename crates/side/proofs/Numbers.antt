@@ -10,13 +10,13 @@ use Rattle.frame.specs.Answer.{Among}
 use Rattle.frame.specs.Message.{messageRefusal}
 use Rattle.frame.specs.Refusal.{addressRefusal, informationRefusal}
 use Rattle.frame.specs.declared.Meaning.the-variants.{I}
-use Rattle.frame.proofs.Laws.{pick-among, then-among}
+use Rattle.frame.proofs.Laws.{pick-among, then-among, then-both}
 use Rattle.frame.proofs.Numbers.{numbers as frame-numbers}
 use Rattle.side.specs.Right.{countWrong, slotWrong, sentWrong, sideWrong, addressWrong}
 use Rattle.side.specs.Slot.{heldRefusal, putRefusal, putOf, waitsRefusal, takeRefusal, takeOf, roomRefusal}
 use Rattle.side.specs.Promises.{Numbers}
 use Rattle.side.specs.declared.Side.{Side}
-use Rattle.side.proofs.Calls.{refusing-lists, then-both}
+use Rattle.side.proofs.Calls.{refusing-lists}
 
 count-numbers : (n : ℕ) → Among (countWrong n) (0 ∷ 30 ∷ [])
 count-numbers n = pick-among (ltb 7 n) (there (here refl)) (here refl)

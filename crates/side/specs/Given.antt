@@ -1,6 +1,5 @@
 -- What a call that is handed an end gives back: its answer and the end, by one equation.
 use Prim.Native.Nat.{ℕ}
-use mathlib.Core.Path.{_≡_}
 use lib.Dec.{eqb}
 use Rattle.frame.specs.Pick.{pick}
 use Rattle.frame.specs.Answer.{Answer, gives, refuses}
@@ -33,10 +32,6 @@ lifted f g = record { answer = g .answer; end = f (g .end) }
 abbrev pub sizeGiven : {A : Type 0} → (A → ℕ) → Answer A → ℕ
 sizeGiven size (gives v) = size v
 sizeGiven size (refuses n) = 0
-
--- 01, "How tight the promises are": "any two outcomes it allows are equal"
-abbrev pub OneOf : {R A E : Type 0} → (R → Given A E) → Type 0
-OneOf {R} {A} {E} given = (x : Given A E) (a b : R) → given a ≡ x → given b ≡ x → a ≡ b
 
 -- the number and the values of each case
 abbrev pub done : Outcome → Answer (Unit {0})

@@ -1,4 +1,4 @@
--- What is promised of this room beside each function's contract. The proofs stand in proofs/Keeps, Whole, Numbers, Settled and Points.
+-- What is promised of this room beside each function's contract. The proofs stand in proofs/Keeps, Whole, Numbers and LosesNothing.
 use Prim.Native.Nat.{ℕ}
 use mathlib.Core.Path.{_≡_}
 use mathlib.Core.Bool.{Bool}
@@ -6,22 +6,18 @@ use mathlib.Core.List.{List, [], _∷_}
 use Rattle.frame.specs.Answer.{Among, Lists}
 use Rattle.frame.specs.Refusal.{frameRefusal}
 use Rattle.frame.specs.declared.Meaning.{Meaning}
-use Rattle.side.specs.Given.{OneOf, done, taken}
+use Rattle.side.specs.Given.{done, taken}
 use Rattle.side.specs.Side.{fresh, restarted, cleared, synchronised}
 use Rattle.side.specs.Right.{sideWrong}
 use Rattle.side.specs.Slot.{putOf, putGiven, takeOf, takeGiven}
-use Rattle.side.specs.Rule.{ack, seen, countRule}
+use Rattle.side.specs.Rule.{countRule}
 use Rattle.side.specs.Say.{says}
 use Rattle.side.specs.declared.Side.{Side}
 use Rattle.side.specs.declared.answer.Outcome.{Outcome}
 use Rattle.side.specs.declared.answer.TakeAnswer.{TakeAnswer}
 use Rattle.side.specs.declared.slot.SidePut.{SidePut}
 use Rattle.side.specs.declared.slot.SideTake.{SideTake}
-use Rattle.side.specs.declared.rule.Ack.{Ack}
-use Rattle.side.specs.declared.rule.Ack.the-variants.{ConfirmsNothing, Confirms, Astray}
 use Rattle.side.specs.declared.rule.Heard.the-variants.{Irrecoverable}
-use Rattle.side.specs.declared.rule.Seen.{Seen}
-use Rattle.side.specs.declared.rule.Seen.the-variants.{New, Duplicate, Strange}
 
 -- number 30 finds nothing wrong
 abbrev pub Right : Side → Type 0
@@ -48,35 +44,9 @@ pub record Numbers : Type 0 where
   pub put : (s : Side) (m : List ℕ) → Lists (30 ∷ 10 ∷ 12 ∷ 13 ∷ []) (putOf s m .answer)
   pub take : (s : Side) (room : ℕ) → Lists (30 ∷ 14 ∷ 11 ∷ []) (takeOf s room .answer)
 
--- any two results that a promise by equation allows are equal
-pub record OneResult : Type 0 where
-  pub put : OneOf putGiven
-  pub take : OneOf takeGiven
-
 -- the definitions that list an answer's number and values lose nothing, and those of whole results neither
 pub record LosesNothing : Type 0 where
   pub done : (a b : Outcome) → done a ≡ done b → a ≡ b
   pub taken : (a b : TakeAnswer) → taken a ≡ taken b → a ≡ b
   pub put : (a b : SidePut) → putGiven a ≡ putGiven b → a ≡ b
   pub take : (a b : SideTake) → takeGiven a ≡ takeGiven b → a ≡ b
-
--- what is judged of an Ns, and of an Nr, that is the number
-abbrev pub judged : Side → ℕ → Seen
-judged s n = seen s (record { 0 = n })
-
-abbrev pub acked : Side → ℕ → Ack
-acked s n = ack s (record { 0 = n })
-
--- P9: "own Nr 0: Ns 0 is new, 7 a duplicate, 1 to 6 irrecoverable"
-abbrev pub P9 : Type 0
-P9 =
-    (s : Side) → s .nr .0 ≡ 0
-    → (judged s 0 ≡ New) × (judged s 7 ≡ Duplicate) × (judged s 1 ≡ Strange) × (judged s 2 ≡ Strange) × (judged s 3 ≡ Strange)
-    × (judged s 4 ≡ Strange) × (judged s 5 ≡ Strange) × (judged s 6 ≡ Strange)
-
--- P10: "own Ns 7: Nr 7 confirms nothing, 0 confirms, 1 to 6 irrecoverable"
-abbrev pub P10 : Type 0
-P10 =
-    (s : Side) → s .ns .0 ≡ 7
-    → (acked s 7 ≡ ConfirmsNothing) × (acked s 0 ≡ Confirms) × (acked s 1 ≡ Astray) × (acked s 2 ≡ Astray) × (acked s 3 ≡ Astray)
-    × (acked s 4 ≡ Astray) × (acked s 5 ≡ Astray) × (acked s 6 ≡ Astray)

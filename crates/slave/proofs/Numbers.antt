@@ -7,10 +7,10 @@ use lib.Dec.{eqb}
 use Rattle.frame.specs.Answer.{Among}
 use Rattle.frame.specs.Refusal.{addressRefusal}
 use Rattle.frame.specs.declared.Meaning.{Meaning}
-use Rattle.frame.proofs.Laws.{pick-among, then-among}
+use Rattle.frame.proofs.Laws.{pick-among, then-among, then-both}
 use Rattle.frame.proofs.Numbers.{numbers as frame-numbers}
 use Rattle.side.specs.Right.{addressWrong}
-use Rattle.side.proofs.Calls.{refusing-lists, then-both}
+use Rattle.side.proofs.Calls.{refusing-lists}
 use Rattle.side.proofs.Numbers.{numbers as side-numbers, address-wrong-numbers, room-numbers}
 use Rattle.slave.specs.Slave.{slaveWrong, blank, makeOf, putOf, takeOf, restartOf, clearOf}
 use Rattle.slave.specs.Step.{otherRefusal, stepRefusal, stepOf}

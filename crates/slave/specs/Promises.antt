@@ -1,19 +1,13 @@
--- What is promised of this room beside each function's contract. The proofs stand in proofs/Keeps, Blank, Numbers, Settled and Worked.
+-- What is promised of this room beside each function's contract. The proofs stand in proofs/Keeps, Blank, Numbers and LosesNothing.
 use Prim.Native.Nat.{ℕ}
 use mathlib.Core.Path.{_≡_}
 use mathlib.Core.List.{List, [], _∷_}
-use Rattle.frame.specs.Answer.{gives, Among, Lists}
+use Rattle.frame.specs.Answer.{Among, Lists}
 use Rattle.frame.specs.Refusal.{addressRefusal}
 use Rattle.frame.specs.declared.Meaning.{Meaning}
-use Rattle.frame.specs.declared.Meaning.the-variants.{I, Rr, Rnr}
-use Rattle.side.specs.Given.{OneOf, refused}
-use Rattle.side.specs.Side.{fresh}
-use Rattle.side.specs.declared.answer.Change.the-variants.{Same}
-use Rattle.side.specs.declared.answer.Line.{Line}
-use Rattle.side.specs.declared.answer.News.{News}
+use Rattle.side.specs.Given.{refused}
 use Rattle.slave.specs.Slave.{slaveWrong, blank, doneGiven, takeGiven, makeOf, putOf, takeOf, restartOf, clearOf}
 use Rattle.slave.specs.Step.{responded, stepGiven, stepOf}
-use Rattle.slave.specs.declared.Mode.the-variants.{Nrm}
 use Rattle.slave.specs.declared.Slave.{Slave}
 use Rattle.slave.specs.declared.SlaveDone.{SlaveDone}
 use Rattle.slave.specs.declared.SlaveTake.{SlaveTake}
@@ -52,42 +46,9 @@ pub record Numbers : Type 0 where
   pub restart : (s : Slave) → Lists (30 ∷ []) (restartOf s .answer)
   pub clear : (s : Slave) → Lists (30 ∷ []) (clearOf s .answer)
 
--- any two results that a promise by equation allows are equal
-pub record OneResult : Type 0 where
-  pub done : OneOf doneGiven
-  pub take : OneOf takeGiven
-  pub step : OneOf stepGiven
-
 -- the definitions that list an answer's number and values lose nothing, and those of whole results neither
 pub record LosesNothing : Type 0 where
   pub responded : (a b : StepAnswer) → responded a ≡ responded b → a ≡ b
   pub done : (a b : SlaveDone) → doneGiven a ≡ doneGiven b → a ≡ b
   pub take : (a b : SlaveTake) → takeGiven a ≡ takeGiven b → a ≡ b
   pub step : (a b : SlaveStep) → stepGiven a ≡ stepGiven b → a ≡ b
-
--- the worked cases: station 5, linked, counts zero, nothing held, nothing waiting; an I order with both counts 0 and a message of 5 bytes
-abbrev pub linked : Slave
-linked = record { side = fresh; mode = Nrm; address = 5 }
-
-abbrev pub message : List ℕ
-message = 7 ∷ 0 ∷ 5 ∷ 0x31 ∷ 1 ∷ []
-
-abbrev pub ordered : Slave → Slave
-ordered s = stepOf s 5 (I (record { 0 = 0 }) (record { 0 = 0 })) message 253 .end
-
-abbrev pub says : Meaning → Line
-says f = record { address = 5; meaning = f; size = 0 }
-
-abbrev pub hands : ℕ → News
-hands n = record { confirmed = 0; handed = n; link = Same }
-
--- "New message into an empty slot, none held: answer RNR with Nr one higher"
-abbrev pub NewMessage : Type 0
-NewMessage = stepOf linked 5 (I (record { 0 = 0 }) (record { 0 = 0 })) message 253 .answer ≡ gives (says (Rnr (record { 0 = 1 })), hands 5)
-
--- "Order arrives, response lost, slave's owner takes the message, whole exchange: duplicate dropped, RR with Nr 1, one handing over."
-abbrev pub RepeatedOrder : Type 0
-RepeatedOrder =
-    (takeOf (ordered linked) 253 .answer ≡ gives 5)
-    × (stepOf (takeOf (ordered linked) 253 .end) 5 (I (record { 0 = 0 }) (record { 0 = 0 })) message 253 .answer ≡ gives (says (Rr (record { 0 = 1 })), hands 0))
-    × (ordered (takeOf (ordered linked) 253 .end) .side .waits ≡ 0)

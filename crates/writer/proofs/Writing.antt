@@ -12,14 +12,13 @@ use Rattle.frame.specs.Refusal.{addressRefusal, informationRefusal, frameRefusa
 use Rattle.frame.specs.declared.Meaning.{Meaning}
 use Rattle.frame.proofs.Laws.{pick-among, then-zero, then-among, unless-gives, unless-lists}
 use Rattle.frame.proofs.Numbers.{numbers}
-use Rattle.frame.proofs.Settled.{settled}
 use Rattle.bits.specs.Bits.{bitsOf}
 use Rattle.bits.specs.Insert.{zeros}
 use Rattle.bits.specs.Packed.{bytesFor}
 use Rattle.bits.proofs.BitLaws.{length-bitsOf}
 use Rattle.bits.proofs.Insertion.{zeros-counted}
 use Rattle.writer.specs.Write.{Report, report, line, contentOf, roomRefusal, writeRefusal, writeOf, written}
-use Rattle.writer.specs.Promises.{Within, WriteWithin, WriteNumbers, WriteLosesNothing, WriteSettled}
+use Rattle.writer.specs.Promises.{Within, WriteWithin, WriteNumbers, WriteLosesNothing}
 use Rattle.writer.specs.declared.Written.the-variants.{Line, Refused}
 use Rattle.writer.proofs.Answering.{information-few}
 use Rattle.writer.proofs.Lining.{length-line, length-content}
@@ -58,7 +57,3 @@ write-loses-nothing (Line b z) (Line c y) e =
 write-loses-nothing (Line b z) (Refused n) e = cc
 write-loses-nothing (Refused n) (Line c y) e = cc
 write-loses-nothing (Refused n) (Refused k) e = let same : n ≡ k = cc in ap Refused same
-
-pub write-settled : WriteSettled
-write-settled address m info old a b x y f g =
-    (settled written write-loses-nothing (writeOf address m info (length old)) a b (f .answer) (g .answer), f .bytes ∙ sym (g .bytes))

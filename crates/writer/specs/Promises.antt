@@ -40,9 +40,3 @@ WriteLosesNothing = (a b : Written) → written a ≡ written b → a ≡ b
 pub record WriteAllowed (address : ℕ) (m : Meaning) (info old : List ℕ) (a : Written) (after : List ℕ) : Type 0 where
   pub answer : written a ≡ writeOf address m info (length old)
   pub bytes : after ≡ writeBytes address m info old
-
--- "Prove that any two outcomes it allows are equal"
-abbrev pub WriteSettled : Type 0
-WriteSettled =
-    (address : ℕ) (m : Meaning) (info old : List ℕ) (a b : Written) (x y : List ℕ)
-    → WriteAllowed address m info old a x → WriteAllowed address m info old b y → (a ≡ b) × (x ≡ y)

@@ -11,10 +11,10 @@ use Rattle.bits.proofs.check.over.Statement.{statement}
 use Rattle.bits.proofs.check.over.Tie as tie
 
 abbrev Inv-loop : tie.InvT-loop
-Inv-loop table start bytes c₀ i₀ c i = (i ≤ length bytes) × (c < 65536) × (register c (bitsOf (drop i bytes)) ≡ register start (bitsOf bytes))
+Inv-loop start bytes c₀ i₀ c i = (i ≤ length bytes) × (c < 65536) × (register c (bitsOf (drop i bytes)) ≡ register start (bitsOf bytes))
 
 abbrev μ-loop : tie.MeasureT-loop
-μ-loop table start bytes c₀ i₀ c i = length bytes - i
+μ-loop start bytes c₀ i₀ c i = length bytes - i
 
 loop-holds : tie.Need-loop-holds Inv-loop μ-loop
 loop-holds c = search needs

@@ -5,7 +5,6 @@ use borrow.Author.Needs.{needs}
 use Rattle.frame.proofs.control.encode.Statement.{statement}
 use Rattle.frame.proofs.control.encode.Tie as tie
 
--- `frame::control::encode` meets its contract.
 -- Assumes nothing.
 
 enum-known-meaning : tie.Need-enum-known-meaning

@@ -1,12 +1,12 @@
--- The definitions that list an answer's number and values lose nothing, and so a promise by equation settles answer and slave.
+-- The definitions that list an answer's number and values, and those of whole results, lose nothing.
 -- Assumes nothing.
 use mathlib.Core.Path.{_≡_, ap}
 use Rattle.side.specs.declared.answer.Line.{Line}
 use Rattle.side.specs.declared.answer.News.{News}
-use Rattle.side.proofs.Settled.{done-one, taken-one, same-answer, same-end, settles}
+use Rattle.side.proofs.LosesNothing.{done-one, taken-one, same-answer, same-end}
 use Rattle.slave.specs.Slave.{doneGiven, takeGiven}
 use Rattle.slave.specs.Step.{responded, stepGiven}
-use Rattle.slave.specs.Promises.{LosesNothing, OneResult}
+use Rattle.slave.specs.Promises.{LosesNothing}
 use Rattle.slave.specs.declared.SlaveDone.{SlaveDone}
 use Rattle.slave.specs.declared.SlaveTake.{SlaveTake}
 use Rattle.slave.specs.declared.step.StepAnswer.{StepAnswer}
@@ -30,6 +30,3 @@ step-slave a b e = λ i. record { answer = responded-one (a .answer) (b .answer)
 
 pub loses-nothing : LosesNothing
 loses-nothing = record { responded = responded-one; done = done-slave; take = take-slave; step = step-slave }
-
-pub one-result : OneResult
-one-result = record { done = settles doneGiven done-slave; take = settles takeGiven take-slave; step = settles stepGiven step-slave }

@@ -1,9 +1,9 @@
--- The definitions that list an answer's number and values lose nothing, and so a promise by equation settles answer and side.
+-- The definitions that list an answer's number and values, and those of whole results, lose nothing.
 -- Assumes nothing.
-use mathlib.Core.Path.{_≡_, refl, sym, _∙_, ap}
-use Rattle.side.specs.Given.{Given, OneOf, done, taken}
+use mathlib.Core.Path.{_≡_, refl, ap}
+use Rattle.side.specs.Given.{Given, done, taken}
 use Rattle.side.specs.Slot.{putGiven, takeGiven}
-use Rattle.side.specs.Promises.{LosesNothing, OneResult}
+use Rattle.side.specs.Promises.{LosesNothing}
 use Rattle.side.specs.declared.answer.Outcome.{Outcome}
 use Rattle.side.specs.declared.answer.Outcome.the-variants.{Done, Refused}
 use Rattle.side.specs.declared.answer.TakeAnswer.{TakeAnswer}
@@ -30,10 +30,6 @@ module _ {A E : Type 0} {g h : Given A E} where
   pub same-end : g ≡ h → g .end ≡ h .end
   same-end e = ap (λ (x : Given A E). x .end) e
 
--- a definition that loses nothing settles the result
-pub settles : {R A E : Type 0} (given : R → Given A E) → ((a b : R) → given a ≡ given b → a ≡ b) → OneOf given
-settles given one x a b p q = one a b (p ∙ sym q)
-
 put-one : (a b : SidePut) → putGiven a ≡ putGiven b → a ≡ b
 put-one a b e = λ i. record { answer = done-one (a .answer) (b .answer) (same-answer e) i; side = same-end e i }
 
@@ -42,6 +38,3 @@ take-one a b e = λ i. record { answer = taken-one (a .answer) (b .answer) (same
 
 pub loses-nothing : LosesNothing
 loses-nothing = record { done = done-one; taken = taken-one; put = put-one; take = take-one }
-
-pub one-result : OneResult
-one-result = record { put = settles putGiven put-one; take = settles takeGiven take-one }

@@ -1,10 +1,9 @@
--- The definition that lists an answer's number and values loses nothing, and so a promise by equation settles the answer.
+-- The definition that lists an answer's number and values loses nothing.
 -- Assumes nothing.
 use mathlib.Core.Path.{_≡_, refl, ap}
-use Rattle.frame.proofs.Settled.{settled}
 use Rattle.capture.specs.declared.records.Found.the-variants.{Order, Response, Silence, End, Refused}
-use Rattle.capture.specs.Record.{found, recordAt}
-use Rattle.capture.specs.Promises.{LosesNothing, Settled}
+use Rattle.capture.specs.Record.{found}
+use Rattle.capture.specs.Promises.{LosesNothing}
 
 pub loses-nothing : LosesNothing
 loses-nothing (Order f n) (Order g k) e = let same : f ≡ g = cc in let next : n ≡ k = cc in rw (same, next)
@@ -32,6 +31,3 @@ loses-nothing (Refused n) (Response g k) e = cc
 loses-nothing (Refused n) (Silence k) e = cc
 loses-nothing (Refused n) End e = cc
 loses-nothing (Refused n) (Refused k) e = let same : n ≡ k = cc in ap Refused same
-
-pub all-settled : Settled
-all-settled capture at = settled found loses-nothing (recordAt capture at)

@@ -1,7 +1,6 @@
--- The definitions that list an answer's number and values lose nothing, and so a promise by equation settles the answer.
+-- The definitions that list an answer's number and values lose nothing.
 -- Assumes nothing.
-use mathlib.Core.Path.{_≡_, refl, sym, _∙_, ap}
-use Rattle.frame.specs.Answer.{Answer}
+use mathlib.Core.Path.{_≡_, refl, ap}
 use Rattle.frame.specs.Control.{decoded, encoded}
 use Rattle.frame.specs.Message.{checked}
 use Rattle.frame.specs.Promises.{LosesNothing}
@@ -11,10 +10,6 @@ use Rattle.frame.specs.declared.control.Encoded.{Encoded}
 use Rattle.frame.specs.declared.control.Encoded.the-variants.{Byte, Refused as NoByte}
 use Rattle.frame.specs.declared.message.Checked.{Checked}
 use Rattle.frame.specs.declared.message.Checked.the-variants.{Passed, Refused as NotPassed}
-
--- any two answers that an equation allows are equal
-pub settled : {E A : Type 0} (lists : E → Answer A) → ((a b : E) → lists a ≡ lists b → a ≡ b) → (x : Answer A) (a b : E) → lists a ≡ x → lists b ≡ x → a ≡ b
-settled lists one x a b p q = one a b (p ∙ sym q)
 
 decoded-one : (a b : Decoded) → decoded a ≡ decoded b → a ≡ b
 decoded-one (Known m) (Known k) e = let same : m ≡ k = cc in ap Known same

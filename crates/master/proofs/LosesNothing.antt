@@ -1,11 +1,11 @@
--- The definitions that list an answer's number and values lose nothing, and so a promise by equation settles answer and master.
+-- The definitions that list an answer's number and values, and those of whole results, lose nothing.
 -- Assumes nothing.
 use mathlib.Core.Path.{_≡_, refl, ap}
-use Rattle.side.proofs.Settled.{done-one, taken-one, same-answer, same-end, settles}
+use Rattle.side.proofs.LosesNothing.{done-one, taken-one, same-answer, same-end}
 use Rattle.master.specs.Master.{doneGiven, takeGiven}
 use Rattle.master.specs.Order.{ordered, orderGiven}
 use Rattle.master.specs.Response.{reported, responseGiven}
-use Rattle.master.specs.Promises.{LosesNothing, OneResult}
+use Rattle.master.specs.Promises.{LosesNothing}
 use Rattle.master.specs.declared.MasterDone.{MasterDone}
 use Rattle.master.specs.declared.MasterTake.{MasterTake}
 use Rattle.master.specs.declared.order.OrderAnswer.{OrderAnswer}
@@ -53,13 +53,4 @@ loses-nothing =
       take = take-master;
       order = order-master;
       response = response-master;
-    }
-
-pub one-result : OneResult
-one-result =
-    record {
-      done = settles doneGiven done-master;
-      take = settles takeGiven take-master;
-      order = settles orderGiven order-master;
-      response = settles responseGiven response-master;
     }
