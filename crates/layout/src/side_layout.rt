@@ -127,34 +127,16 @@ pub(crate) fn lay_side(side: Side, bytes: &mut [u8])
 fn side_head(side: Side) -> [u8; 20]
     ensures { λ r. ⌜ r ≡ sideHead side ⌝ }
 {
-    let ns = side.ns.0;
-    let nr = side.nr.0;
-    let sent = mark_byte(side.sent);
-    let doubt = mark_byte(side.doubt);
-    let h = size_bytes(side.holds);
-    let w = size_bytes(side.waits);
-    [
-        ns,
-        nr,
-        sent,
-        doubt,
-        h[0],
-        h[1],
-        h[2],
-        h[3],
-        h[4],
-        h[5],
-        h[6],
-        h[7],
-        w[0],
-        w[1],
-        w[2],
-        w[3],
-        w[4],
-        w[5],
-        w[6],
-        w[7],
-    ]
+    let holds = size_bytes(side.holds);
+    let waits = size_bytes(side.waits);
+    let mut head = [0u8; 20];
+    head[0] = side.ns.0;
+    head[1] = side.nr.0;
+    head[2] = mark_byte(side.sent);
+    head[3] = mark_byte(side.doubt);
+    lay(&holds, 4, &mut head);
+    lay(&waits, 12, &mut head);
+    head
 }
 
 pub(crate) fn mark_byte(mark: bool) -> u8

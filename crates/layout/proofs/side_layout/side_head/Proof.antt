@@ -5,69 +5,72 @@ use borrow.Author.Needs.{needs}
 use Rattle.layout.proofs.side_layout.side_head.Statement.{statement}
 use Rattle.layout.proofs.side_layout.side_head.Tie as tie
 
-mark-byte-requires : tie.Need-mark-byte-requires
-mark-byte-requires c κs = search needs
-
-mark-byte-requires-2 : tie.Need-mark-byte-requires-2
-mark-byte-requires-2 c κs = search needs
-
 size-bytes-requires : tie.Need-size-bytes-requires
 size-bytes-requires c κs = search needs
 
 size-bytes-requires-2 : tie.Need-size-bytes-requires-2
 size-bytes-requires-2 c κs = search needs
 
-array-read-t11 : tie.Need-array-read-t11
-array-read-t11 c = search needs
+array-write-head : tie.Need-array-write-head
+array-write-head c = search needs
 
-array-read-t14 : tie.Need-array-read-t14
-array-read-t14 c = search needs
+array-write-head-2 : tie.Need-array-write-head-2
+array-write-head-2 c = search needs
 
-array-read-t17 : tie.Need-array-read-t17
-array-read-t17 c = search needs
+mark-byte-requires : tie.Need-mark-byte-requires
+mark-byte-requires c κs = search needs
 
-array-read-t20 : tie.Need-array-read-t20
-array-read-t20 c = search needs
+array-write-head-3 : tie.Need-array-write-head-3
+array-write-head-3 c = search needs
 
-array-read-t23 : tie.Need-array-read-t23
-array-read-t23 c = search needs
+mark-byte-requires-2 : tie.Need-mark-byte-requires-2
+mark-byte-requires-2 c κs = search needs
 
-array-read-t26 : tie.Need-array-read-t26
-array-read-t26 c = search needs
+array-write-head-4 : tie.Need-array-write-head-4
+array-write-head-4 c = search needs
 
-array-read-t29 : tie.Need-array-read-t29
-array-read-t29 c = search needs
+slice-aggregate-lay : tie.Need-slice-aggregate-lay
+slice-aggregate-lay c = search needs
 
-array-read-t32 : tie.Need-array-read-t32
-array-read-t32 c = search needs
+slice-aggregate-lay-2 : tie.Need-slice-aggregate-lay-2
+slice-aggregate-lay-2 c = search needs
 
-array-read-t35 : tie.Need-array-read-t35
-array-read-t35 c = search needs
+lay-requires : tie.Need-lay-requires
+lay-requires c κs = search needs
 
-array-read-t38 : tie.Need-array-read-t38
-array-read-t38 c = search needs
+slice-aggregate-lay-3 : tie.Need-slice-aggregate-lay-3
+slice-aggregate-lay-3 c = search needs
 
-array-read-t41 : tie.Need-array-read-t41
-array-read-t41 c = search needs
+slice-aggregate-lay-4 : tie.Need-slice-aggregate-lay-4
+slice-aggregate-lay-4 c = search needs
 
-array-read-t44 : tie.Need-array-read-t44
-array-read-t44 c = search needs
-
-array-read-t47 : tie.Need-array-read-t47
-array-read-t47 c = search needs
-
-array-read-t50 : tie.Need-array-read-t50
-array-read-t50 c = search needs
-
-array-read-t53 : tie.Need-array-read-t53
-array-read-t53 c = search needs
-
-array-read-t56 : tie.Need-array-read-t56
-array-read-t56 c = search needs
+lay-requires-2 : tie.Need-lay-requires-2
+lay-requires-2 c κs = search needs
 
 returns : tie.Need-returns
 unfolding sideHead
-returns c = rw (c .size-bytes2 .ensures, c .before .size-bytes .ensures, c .before .before .mark-byte2 .ensures, c .before .before .before .mark-byte .ensures)
+returns c =
+    let laid = c .before .before .before .before .before in
+    let marked = laid .before .before .before in
+    let sized = marked .before .before in
+    rw (c .before .lay2 .ensures, laid .lay .ensures, marked .mark-byte2 .ensures, marked .before .mark-byte .ensures, sized .size-bytes2 .ensures, sized .before .size-bytes .ensures)
 
 pub side-head-spec : {M : Type 1} → statement M
-side-head-spec = tie.close (tie.spec mark-byte-requires mark-byte-requires-2 size-bytes-requires size-bytes-requires-2 array-read-t11 array-read-t14 array-read-t17 array-read-t20 array-read-t23 array-read-t26 array-read-t29 array-read-t32 array-read-t35 array-read-t38 array-read-t41 array-read-t44 array-read-t47 array-read-t50 array-read-t53 array-read-t56 returns)
+side-head-spec =
+    tie.close
+    (tie.spec
+    size-bytes-requires
+    size-bytes-requires-2
+    array-write-head
+    array-write-head-2
+    mark-byte-requires
+    array-write-head-3
+    mark-byte-requires-2
+    array-write-head-4
+    slice-aggregate-lay
+    slice-aggregate-lay-2
+    lay-requires
+    slice-aggregate-lay-3
+    slice-aggregate-lay-4
+    lay-requires-2
+    returns)
