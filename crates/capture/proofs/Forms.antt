@@ -10,58 +10,11 @@ use lib.Seq.{take-all}
 use borrow.Author.Tests.{ltb-false, eqb-true, eq-eqb, ne-eqb}
 use Rattle.frame.specs.Answer.{Answer, gives, refuses}
 use Rattle.frame.specs.Control.{decodeOf}
-use Rattle.frame.specs.Refusal.{addressRefusal, informationRefusal, noneRefusal}
+use Rattle.frame.specs.Refusal.{addressRefusal}
 use Rattle.frame.specs.declared.Meaning.{Meaning}
-use Rattle.frame.specs.declared.Meaning.the-variants.{I, Rr, Rnr, Snrm, Disc, Ua, Frmr}
 use Rattle.frame.proofs.Laws.{pick-first, pick-second}
-use Rattle.frame.proofs.Messages.{message-right}
 use Rattle.capture.specs.declared.records.Frame.{Frame}
 use Rattle.capture.specs.Record.{lengthOf, kindOf, kindRefusal, formRefusal, withControl, frameIn, silence, entry, end, framed, recordOf, recordAt}
-
-none-small : (info : List ℕ) → noneRefusal info ≡ 0 → length info ≤ 253
-unfolding noneRefusal
-none-small info e =
-    let none = pick-first (eqb (length info) 0) 0 10 0 e (λ z. omega arith) in
-    let zero = eqb-true (length info) 0 (none .0) in
-    omega arith
-
--- information that is not refused has at most 253 bytes
-pub information-small : (m : Meaning) (info : List ℕ) → informationRefusal m info ≡ 0 → length info ≤ 253
-unfolding informationRefusal
-information-small (I ns nr) info e = message-right info .0 e .1
-information-small (Rr nr) info e = none-small info e
-information-small (Rnr nr) info e = none-small info e
-information-small Snrm info e = none-small info e
-information-small Disc info e = none-small info e
-information-small Ua info e = none-small info e
-information-small Frmr info e = none-small info e
-
--- a frame that carries no information
-abbrev pub Bare : Meaning → Type 0
-Bare (I ns nr) = ⊥
-Bare (Rr nr) = Unit {0}
-Bare (Rnr nr) = Unit {0}
-Bare Snrm = Unit {0}
-Bare Disc = Unit {0}
-Bare Ua = Unit {0}
-Bare Frmr = Unit {0}
-
-none-bare : (info : List ℕ) → noneRefusal info ≡ 0 → length info < 10
-unfolding noneRefusal
-none-bare info e =
-    let none = pick-first (eqb (length info) 0) 0 10 0 e (λ z. omega arith) in
-    let zero = eqb-true (length info) 0 (none .0) in
-    omega arith
-
-pub information-none : (m : Meaning) (info : List ℕ) → Bare m → informationRefusal m info ≡ 0 → length info < 10
-unfolding informationRefusal
-information-none (I ns nr) info b e = absurd b
-information-none (Rr nr) info b e = none-bare info e
-information-none (Rnr nr) info b e = none-bare info e
-information-none Snrm info b e = none-bare info e
-information-none Disc info b e = none-bare info e
-information-none Ua info b e = none-bare info e
-information-none Frmr info b e = none-bare info e
 
 -- a kind that is not refused 18 with its body, and is no silence, has two bytes at least
 body-least : (kind size : ℕ) → kindRefusal kind size ≡ 0 → (kind ≡ 3 → ⊥) → 2 ≤ size

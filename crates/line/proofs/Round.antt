@@ -19,7 +19,7 @@ use Rattle.frame.specs.declared.Meaning.{Meaning}
 use Rattle.frame.specs.declared.Meaning.the-variants.{I, Rr, Rnr, Snrm, Disc, Ua, Frmr}
 use Rattle.frame.proofs.Laws.{pick-cases, pick-first, pick-second, then-zero, unless-gives}
 use Rattle.frame.proofs.ControlBytes.{count-small, decode-byte, round-trip}
-use Rattle.frame.proofs.Messages.{part as informationPart}
+use Rattle.frame.proofs.Messages.{part as informationPart, information-few}
 use Rattle.bits.specs.Bits.{bitsOf, bytesOf}
 use Rattle.bits.specs.Insert.{insert, remove, ending}
 use Rattle.bits.specs.Check.{checkWord, checkBytes}
@@ -30,7 +30,7 @@ use Rattle.bits.proofs.Insertion.{no-six-ones, length-insert, remove-insert, en
 use Rattle.writer.specs.Write.{Report, contentBytes, line, contentOf, report, roomRefusal, writeRefusal, writeOf, writeBytes, laid}
 use Rattle.writer.specs.Promises.{WriteAllowed}
 use Rattle.writer.specs.declared.Written.the-variants.{Line}
-use Rattle.writer.proofs.Answering.{information-few, encode-gives}
+use Rattle.writer.proofs.Answering.{encode-gives}
 use Rattle.writer.proofs.Lining.{length-content, laid-bits}
 use Rattle.writer.proofs.Writing.{write-within}
 use Rattle.reader.specs.Places.{Flag}

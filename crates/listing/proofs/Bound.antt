@@ -11,14 +11,14 @@ use borrow.Author.Tests.{ltb-true, ltb-false, eqb-true, le-ltb}
 use Rattle.frame.specs.Pick.{pick}
 use Rattle.frame.specs.Answer.{Answer, gives, refuses, Among, Lists}
 use Rattle.frame.specs.Control.{countRefusal, countsRefusal, byteOf, encodeOf, decodeOf}
-use Rattle.frame.specs.Refusal.{addressRefusal, informationRefusal}
+use Rattle.frame.specs.Refusal.{addressRefusal, noneRefusal, informationRefusal}
 use Rattle.frame.specs.declared.Meaning.{Meaning}
 use Rattle.frame.specs.declared.Meaning.the-variants.{I, Rr, Rnr, Snrm, Disc, Ua, Frmr}
 use Rattle.frame.proofs.Laws.{pick-cases, pick-both, pick-first, pick-second, then-zero, unless-gives}
 use Rattle.frame.proofs.ControlBytes.{round-trip}
+use Rattle.frame.proofs.Messages.{none-empty, information-few}
 use Rattle.capture.specs.declared.records.Frame.{Frame}
 use Rattle.capture.specs.Record.{withInformation, withControl, frameIn, Entry, silence, Step, wayOf}
-use Rattle.capture.proofs.Forms.{information-small, information-none}
 use Rattle.capture.specs.Promises.{recordNumbers}
 use Rattle.capture.proofs.Standing.{Stands, ends, fails, waits, speaks, stands}
 use Rattle.capture.proofs.Numbers.{numbers}
@@ -72,25 +72,28 @@ in-width n h =
 count-short : (n : ℕ) → countRefusal n ≡ 0 → length (decimal n) ≤ 1
 count-short n e = let few = ltb-false 7 n (pick-second (ltb 7 n) 9 0 0 e (λ z. omega arith) .0) in one-digit n (omega arith)
 
+none-short : (info : List ℕ) → noneRefusal info ≡ 0 → length (decimal (length info)) ≤ 1
+none-short info e = let none = none-empty info e in one-digit (length info) (omega arith)
+
 -- name, counts and information size of a frame that is not refused have seven bytes at most
 meaning-short : (m : Meaning) (info : List ℕ) → countsRefusal m ≡ 0 → informationRefusal m info ≡ 0
     → length (name m) + length (nsField m) + length (nrField m) + length (decimal (length info)) ≤ 7
-unfolding countsRefusal
+unfolding countsRefusal informationRefusal
 meaning-short (I ns nr) info c e =
     let both = then-zero (countRefusal (ns .0)) (countRefusal (nr .0)) c in
     let s = count-short (ns .0) (both .0) in
     let r = count-short (nr .0) (both .1) in
-    let small = information-small (I ns nr) info e in
+    let small = information-few (I ns nr) info e in
     let few = three-digits (length info) (omega arith) in
     omega arith
 meaning-short (Rr nr) info c e =
-    let r = count-short (nr .0) c in let none = one-digit (length info) (information-none (Rr nr) info tt e) in omega arith
+    let r = count-short (nr .0) c in let none = none-short info e in omega arith
 meaning-short (Rnr nr) info c e =
-    let r = count-short (nr .0) c in let none = one-digit (length info) (information-none (Rnr nr) info tt e) in omega arith
-meaning-short Snrm info c e = let none = one-digit (length info) (information-none Snrm info tt e) in omega arith
-meaning-short Disc info c e = let none = one-digit (length info) (information-none Disc info tt e) in omega arith
-meaning-short Ua info c e = let none = one-digit (length info) (information-none Ua info tt e) in omega arith
-meaning-short Frmr info c e = let none = one-digit (length info) (information-none Frmr info tt e) in omega arith
+    let r = count-short (nr .0) c in let none = none-short info e in omega arith
+meaning-short Snrm info c e = let none = none-short info e in omega arith
+meaning-short Disc info c e = let none = none-short info e in omega arith
+meaning-short Ua info c e = let none = none-short info e in omega arith
+meaning-short Frmr info c e = let none = none-short info e in omega arith
 
 -- the bytes of a frame's line beside its number: three of the address, seven of the rest, eight of way, spaces and newline
 abbrev pub Short : Frame → Type 0

@@ -1,36 +1,19 @@
 -- What the writer answers: which frames it takes, and what is then known of them.
 -- Assumes nothing.
-use Prim.Native.Nat.{ℕ, _≤_}
+use Prim.Native.Nat.{ℕ}
 use mathlib.Core.Path.{_≡_, _∙_}
 use mathlib.Core.List.{List}
 use native.Mathlib.Omega.{arith}
 use lib.Dec.{eqb}
 use lib.ListN.{length}
-use borrow.Author.Tests.{eqb-true, eqb-false, ne-eqb}
+use borrow.Author.Tests.{eqb-false, ne-eqb}
 use Rattle.frame.specs.Pick.{_then_}
 use Rattle.frame.specs.Answer.{Answer, gives, refuses, unless}
 use Rattle.frame.specs.Control.{byteOf, countsRefusal, encodeOf}
-use Rattle.frame.specs.Refusal.{addressRefusal, noneRefusal, informationRefusal, frameRefusal}
+use Rattle.frame.specs.Refusal.{addressRefusal, informationRefusal, frameRefusal}
 use Rattle.frame.specs.declared.Meaning.{Meaning}
-use Rattle.frame.specs.declared.Meaning.the-variants.{I, Rr, Rnr, Snrm, Disc, Ua, Frmr}
-use Rattle.frame.proofs.Laws.{pick-first, pick-cases, unless-gives}
-use Rattle.frame.proofs.Messages.{message-right}
+use Rattle.frame.proofs.Laws.{pick-cases, unless-gives}
 use Rattle.writer.specs.Write.{contentBytes, roomRefusal, answered, left, writeRefusal, writeOf, writeBytes}
-
-none-few : (info : List ℕ) → noneRefusal info ≡ 0 → length info ≤ 253
-unfolding noneRefusal
-none-few info e = let z = eqb-true (length info) 0 (pick-first (eqb (length info) 0) _ _ 0 e (λ d. omega arith) .0) in omega arith
-
--- information that is not refused is at most 253 bytes
-pub information-few : (m : Meaning) (info : List ℕ) → informationRefusal m info ≡ 0 → length info ≤ 253
-unfolding informationRefusal
-information-few (I ns nr) info e = message-right info .0 e .1
-information-few (Rr nr) info e = none-few info e
-information-few (Rnr nr) info e = none-few info e
-information-few Snrm info e = none-few info e
-information-few Disc info e = none-few info e
-information-few Ua info e = none-few info e
-information-few Frmr info e = none-few info e
 
 -- ---- the control byte, or 9
 

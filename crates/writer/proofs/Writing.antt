@@ -1,7 +1,7 @@
 -- The writer's answers: how large a frame can be, their numbers, and that any two allowed outcomes are equal.
 -- Assumes nothing.
 use Prim.Native.Nat.{ℕ, _≤_}
-use mathlib.Core.Path.{_≡_, _∙_, refl, sym, ap, ap₂, subst}
+use mathlib.Core.Path.{_≡_, refl, ap, ap₂, subst}
 use mathlib.Core.List.{List, [], _∷_, List·Memᴰ·head as here, List·Memᴰ·tail as there}
 use native.Mathlib.Omega.{arith}
 use lib.Dec.{ltb}
@@ -11,16 +11,16 @@ use Rattle.frame.specs.Control.{byteOf, countsRefusal}
 use Rattle.frame.specs.Refusal.{addressRefusal, informationRefusal, frameRefusal}
 use Rattle.frame.specs.declared.Meaning.{Meaning}
 use Rattle.frame.proofs.Laws.{pick-among, then-zero, then-among, unless-gives, unless-lists}
+use Rattle.frame.proofs.Messages.{information-few}
 use Rattle.frame.proofs.Numbers.{numbers}
 use Rattle.bits.specs.Bits.{bitsOf}
 use Rattle.bits.specs.Insert.{zeros}
 use Rattle.bits.specs.Packed.{bytesFor}
 use Rattle.bits.proofs.BitLaws.{length-bitsOf}
 use Rattle.bits.proofs.Insertion.{zeros-counted}
-use Rattle.writer.specs.Write.{Report, report, line, contentOf, roomRefusal, writeRefusal, writeOf, written}
+use Rattle.writer.specs.Write.{Report, report, line, contentOf, roomRefusal, writeRefusal, writeOf}
 use Rattle.writer.specs.Promises.{Within, WriteWithin, WriteNumbers, WriteLosesNothing}
 use Rattle.writer.specs.declared.Written.the-variants.{Line, Refused}
-use Rattle.writer.proofs.Answering.{information-few}
 use Rattle.writer.proofs.Lining.{length-line, length-content}
 
 within : (address : ℕ) (m : Meaning) (info : List ℕ) → length info ≤ 253 → Within info (report (contentOf address m info))

@@ -2,7 +2,7 @@
 -- Assumes nothing.
 use mathlib.Core.Path.{_∙_, sym}
 use Rattle.frame.proofs.Tests.{tests}
-use Rattle.writer.proofs.Answering.{information-few}
+use Rattle.frame.proofs.Messages.{information-few}
 use borrow.Author.Tests.{eq-eqb}
 use borrow.Author.Needs.{needs}
 use Rattle.writer.proofs.with_control.Statement.{statement}
