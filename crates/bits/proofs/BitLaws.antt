@@ -8,9 +8,10 @@ use native.Mathlib.Omega.{arith}
 use native.Mathlib.Nat.{pow-suc, suc-add, zero-add, mul-assoc, mul-comm, lt-of-lt-of-le}
 use lib.Dec.{eqb}
 use lib.Bits.{block-half, block-odd}
-use lib.ListN.{length, take, drop, getD, length-append, length-take, length-drop, take-append-drop}
+use lib.ListN.{length, take, drop, length-append, length-take, length-drop, take-append-drop}
 use lib.Pow.{pow-mono}
 use lib.Seq.{take-at, drop-at, length-take-le}
+use Rattle.frame.specs.Bytes.{Bytes}
 use Rattle.bits.specs.Bits.{num, odd, low, bitsOf, val, bytesOf}
 use Rattle.bits.specs.Flag.{flag}
 
@@ -96,7 +97,7 @@ length-bytesOf zero bs = refl
 length-bytesOf (suc n) bs = ap suc (length-bytesOf n (drop 8 bs))
 
 -- bytes to bits and back
-pub bytes-back : (a : List ℕ) → ((i : ℕ) → getD a i 0 < 256) → bytesOf (length a) (bitsOf a) ≡ a
+pub bytes-back : (a : List ℕ) → Bytes a → bytesOf (length a) (bitsOf a) ≡ a
 unfolding bytesOf bitsOf
 bytes-back [] h = refl
 bytes-back (x ∷ xs) h =
@@ -114,7 +115,7 @@ bits-back (suc n) bs h =
     ap₂ (λ (l m : List Bool). l ++ m) first (bits-back n (drop 8 bs) (omega (arith, length-drop 8 bs))) ∙ take-append-drop 8 bs
 
 -- each is a byte
-pub bytesOf-small : (n : ℕ) (bs : List Bool) (i : ℕ) → getD (bytesOf n bs) i 0 < 256
+pub bytesOf-small : (n : ℕ) (bs : List Bool) → Bytes (bytesOf n bs)
 unfolding bytesOf
 bytesOf-small zero bs i = omega arith
 bytesOf-small (suc n) bs zero = lt-of-lt-of-le (val-small (take 8 bs)) (pow-mono {j = 8} (omega (arith, length-take 8 bs)))

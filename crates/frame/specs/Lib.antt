@@ -1,4 +1,5 @@
 -- The definitions that the promises of this room cite.
+pub mod Bytes
 pub mod Pick
 pub mod Answer
 pub mod Control

@@ -10,12 +10,13 @@ use lib.Dec.{eqb, ltb}
 use lib.ListN.{length, getD, take, drop, take-append-drop, length-drop, drop-of-length-le}
 use lib.Seq.{take-all, take-at, take-add, drop-drop, drop-cons}
 use borrow.Author.Tests.{ltb-false}
+use Rattle.frame.specs.Bytes.{Bytes}
 use Rattle.frame.specs.Pick.{_then_}
 use Rattle.frame.proofs.Laws.{pick-both, pick-second, then-zero}
 use Rattle.layout.specs.Layout.{numberAt, bytesOf, markByte, above, marksWrong, sideAt, sideHead, sideBytes}
 use Rattle.layout.specs.SlaveLayout.{slaveMode, slaveModeByte, slaveAt, slaveBytes, slaveWrong}
 use Rattle.layout.specs.MasterLayout.{masterMode, masterModeByte, masterAt, masterTail, masterBytes, masterWrong}
-use Rattle.layout.specs.Promises.{Bytes, Every}
+use Rattle.layout.specs.Promises.{Every}
 
 abbrev Two : ℕ → Type 0
 Two n = (n ≡ 0) ⊎ (n ≡ 30)

@@ -3,7 +3,8 @@ use Prim.Native.Nat.{ℕ, _<_, _^_}
 use mathlib.Core.Path.{_≡_}
 use mathlib.Core.Logic.{_⊎_}
 use mathlib.Core.List.{List}
-use lib.ListN.{length, getD}
+use lib.ListN.{length}
+use Rattle.frame.specs.Bytes.{Bytes}
 use Rattle.side.specs.declared.Side.{Side}
 use Rattle.slave.specs.declared.Slave.{Slave}
 use Rattle.master.specs.declared.Master.{Master}
@@ -21,10 +22,6 @@ pub record Typed (s : Side) : Type 0 where
 pub record ReadBack : Type 0 where
   pub slave : (s : Slave) → Typed (s .side) → (slaveWrong (slaveBytes s) ≡ 0) × (slaveAt (slaveBytes s) ≡ s)
   pub master : (m : Master) → Typed (m .side) → m .tick < 2 ^ 32 → m .limit < 2 ^ 32 → (masterWrong (masterBytes m) ≡ 0) × (masterAt (masterBytes m) ≡ m)
-
--- each element is a byte
-abbrev pub Bytes : List ℕ → Type 0
-Bytes b = (i : ℕ) → getD b i 0 < 256
 
 -- every byte string of the size is refused by 30, or is an end, and then the bytes of that end
 pub record Every : Type 0 where

@@ -9,6 +9,7 @@ use lib.Dec.{eqb, ltb, lit<}
 use lib.ListN.{length, getD, take, drop, length-append, length-take, length-drop, take-append-drop}
 use lib.Seq.{take-append-seam, getD-append-seam, getD-append-add, getD-drop}
 use borrow.Author.Tests.{eq-eqb, ne-eqb, le-ltb, eqb-true, ltb-false}
+use Rattle.frame.specs.Bytes.{Bytes}
 use Rattle.frame.specs.Pick.{pick, _then_}
 use Rattle.frame.specs.Answer.{Answer, gives, refuses, unless}
 use Rattle.frame.specs.Carried.{Carried}
@@ -18,6 +19,7 @@ use Rattle.frame.specs.Refusal.{addressRefusal, informationRefusal, frameRefusa
 use Rattle.frame.specs.declared.Meaning.{Meaning}
 use Rattle.frame.specs.declared.Meaning.the-variants.{I, Rr, Rnr, Snrm, Disc, Ua, Frmr}
 use Rattle.frame.proofs.Laws.{pick-cases, pick-first, pick-second, then-zero, unless-gives}
+use Rattle.frame.proofs.Bytes.{bytes-cons, bytes-append, bytes-drop}
 use Rattle.frame.proofs.ControlBytes.{count-small, decode-byte, round-trip}
 use Rattle.frame.proofs.Messages.{part as informationPart, information-few}
 use Rattle.bits.specs.Bits.{bitsOf, bytesOf}
@@ -43,19 +45,9 @@ use Rattle.reader.proofs.Answers.{read-loses-nothing}
 use Rattle.reader.proofs.Judging.{before-passes, removal-passed}
 use Rattle.reader.proofs.Windows.{flag-within}
 use Rattle.reader.proofs.Enclosed.{enclosed-heard, heard-quiet}
-use Rattle.line.specs.RoundTrip.{Bytes, WrittenIsRead, CallsFit, ReadIsWritten, ContentIsWritten, CallsGive}
+use Rattle.line.specs.RoundTrip.{WrittenIsRead, CallsFit, ReadIsWritten, ContentIsWritten, CallsGive}
 
--- ---- bytes
-
-pub bytes-cons : (a : ℕ) (x : List ℕ) → a < 256 → Bytes x → Bytes (a ∷ x)
-bytes-cons a x h b zero = h
-bytes-cons a x h b (suc i) = b i
-
-pub bytes-append : (x y : List ℕ) → Bytes x → Bytes y → Bytes (x ++ y)
-bytes-append [] y b c i = c i
-bytes-append (a ∷ x) y b c zero = b 0
-bytes-append (a ∷ x) y b c (suc i) = bytes-append x y (λ k. b (suc k)) c i
-
+-- the check word is two bytes
 check-bytes : (x : List ℕ) → Bytes (checkBytes x)
 unfolding checkBytes checkWord
 check-bytes x zero = omega arith
@@ -130,9 +122,6 @@ two-bytes w (x ∷ y ∷ []) b h e =
     let high : w / 256 ≡ y = omega arith in
     rw (low, high)
 two-bytes w (x ∷ y ∷ z ∷ zs) b h e = absurd (omega arith)
-
-bytes-drop : (n : ℕ) (x : List ℕ) → Bytes x → Bytes (drop n x)
-bytes-drop n x b i = rw (getD-drop n x i 0) (b (n + i))
 
 checked : (f : List ℕ) → 2 ≤ length f → Bytes f → checkRefusal f ≡ 0 → take (length f - 2) f ++ checkBytes (take (length f - 2) f) ≡ f
 unfolding checkRefusal checkBytes

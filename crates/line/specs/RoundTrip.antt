@@ -1,9 +1,10 @@
 -- The round trip: what is written is read, and what is read is written. The proofs stand in proofs/Round.
-use Prim.Native.Nat.{ℕ, _<_, _≤_}
+use Prim.Native.Nat.{ℕ, _≤_}
 use mathlib.Core.Path.{_≡_}
 use mathlib.Core.Bool.{Bool}
 use mathlib.Core.List.{List, _++_}
-use lib.ListN.{length, getD, take, drop}
+use lib.ListN.{length, take, drop}
+use Rattle.frame.specs.Bytes.{Bytes}
 use Rattle.frame.specs.Answer.{gives}
 use Rattle.frame.specs.Carried.{Carried}
 use Rattle.frame.specs.Refusal.{addressRefusal, frameRefusal}
@@ -20,10 +21,6 @@ use Rattle.reader.specs.Read.{removalRefusal, bytesIn, fitting, readOf}
 use Rattle.reader.specs.Promises.{ReadAllowed}
 use Rattle.reader.specs.declared.Reading.{Reading}
 use Rattle.reader.specs.declared.Reading.the-variants.{Frame}
-
--- numbers that are bytes
-abbrev pub Bytes : List ℕ → Type 0
-Bytes x = (i : ℕ) → getD x i 0 < 256
 
 -- First half. Take a frame that the writer takes: its address passes 8, its meaning and information pass 9, 10 and 12.
 -- Take any buffer and bit count that 2 lets pass and whose bits are: leading bits in which no flag stands, the frame's line, and whatever follows.

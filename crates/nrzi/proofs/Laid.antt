@@ -8,10 +8,12 @@ use native.Mathlib.Omega.{arith}
 use native.Mathlib.Numerals.{add-one}
 use lib.Dec.{ltb}
 use lib.ListN.{length, take, drop, getD, set, length-append, length-drop, take-append-drop}
-use lib.Seq.{drop-cons, drop-drop, take-append-le, take-append-add, drop-append-le, getD-drop, getD-at, set-at, length-take-le}
+use lib.Seq.{drop-cons, drop-drop, take-append-le, take-append-add, drop-append-le, getD-at, set-at, length-take-le}
 use borrow.Author.Tests.{ltb-false}
+use Rattle.frame.specs.Bytes.{Bytes}
 use Rattle.frame.specs.Pick.{pick}
 use Rattle.frame.proofs.Laws.{pick-second, then-zero}
+use Rattle.frame.proofs.Bytes.{bytes-drop}
 use Rattle.bits.specs.Bits.{low, val, bitsOf, bytesOf}
 use Rattle.bits.specs.Packed.{bytesFor, over}
 use Rattle.bits.specs.Count.{bitCountRefusal}
@@ -37,10 +39,7 @@ take-part a w r h g =
     ∙ take-append-add before (low 8 (getD a w 0) ++ bitsOf (drop (suc w) a)) r
     ∙ ap (λ (l : List Bool). before ++ l) first
 
-module _ (out : List ℕ) (bytes : (i : ℕ) → getD out i 0 < 256) where
-  small-drop : (w i : ℕ) → getD (drop w out) i 0 < 256
-  small-drop w i = rw (getD-drop w out i 0) (bytes (w + i))
-
+module _ (out : List ℕ) (bytes : Bytes out) where
   -- whole bytes of bits
   pub whole-laid : (c : List Bool) (w : ℕ) → length c ≡ 8 * w → w ≤ length out → bytesOf (length out) (over c (bitsOf out)) ≡ bytesOf w c ++ drop w out
   unfolding over
@@ -50,7 +49,7 @@ module _ (out : List ℕ) (bytes : (i : ℕ) → getD out i 0 < 256) where
       subst (λ (n : ℕ). bytesOf n (c ++ drop (length c) (bitsOf out)) ≡ bytesOf w c ++ drop w out) size
       (ap (λ (l : List Bool). bytesOf (w + length (drop w out)) (c ++ l)) rest
       ∙ bytesOf-append w (length (drop w out)) c (bitsOf (drop w out)) h
-      ∙ ap (λ (l : List ℕ). bytesOf w c ++ l) (bytes-back (drop w out) (small-drop w)))
+      ∙ ap (λ (l : List ℕ). bytesOf w c ++ l) (bytes-back (drop w out) (bytes-drop w out bytes)))
 
   -- and r bits of one more, whose other bits stay
   pub part-laid : (c d : List Bool) (w r : ℕ) → length c ≡ 8 * w → length d ≡ r → r ≤ 8 → w < length out
@@ -76,7 +75,7 @@ module _ (out : List ℕ) (bytes : (i : ℕ) → getD out i 0 < 256) where
       ∙ append-assoc (bytesOf w c) (val (d ++ kept) ∷ []) (drop (suc w) out)
 
 -- the whole of what is coded: the level at the end, and the output
-module _ (back l : Bool) (input out : List ℕ) (bits w : ℕ) (bytes : (i : ℕ) → getD out i 0 < 256) where
+module _ (back l : Bool) (input out : List ℕ) (bits w : ℕ) (bytes : Bytes out) where
   pub record Laid (end : Bool) (last : List ℕ) : Type 0 where
     pub level : end ≡ reached back l (take bits (bitsOf input))
     pub output : last ≡ bytesOf (length out) (over (coding back l (take bits (bitsOf input))) (bitsOf out))

@@ -1,23 +1,22 @@
 -- The layers fit: orders and answers go over the line and come back, and no end refuses a reading for its form.
 -- Assumes nothing.
-use Prim.Native.Nat.{ℕ, _≤_, _<_}
+use Prim.Native.Nat.{ℕ, _≤_}
 use mathlib.Core.Path.{_≡_, refl, sym, _∙_, ap, subst}
 use mathlib.Core.Bool.{Bool, true, false}
 use mathlib.Core.List.{List, [], _∷_, List·Memᴰ·head as here, List·Memᴰ·tail as there}
 use native.Mathlib.Omega.{arith}
-use lib.Dec.{eqb, ltb}
+use lib.Dec.{eqb}
 use lib.ListN.{length, take, length-take}
-use borrow.Author.Tests.{eqb-true, le-ltb, ltb-false}
+use borrow.Author.Tests.{eqb-true, le-ltb}
+use Rattle.frame.specs.Bytes.{Bytes}
 use Rattle.frame.specs.Pick.{pick, _then_}
 use Rattle.frame.specs.Answer.{Answer, gives, refuses, unless, Among, Lists}
-use Rattle.frame.specs.Carried.{Carried}
 use Rattle.frame.specs.Refusal.{addressRefusal, frameRefusal}
 use Rattle.frame.specs.declared.Meaning.{Meaning}
 use Rattle.frame.proofs.Laws.{pick-cases, pick-both, pick-first, pick-among, then-zero, then-among, unless-gives}
+use Rattle.frame.proofs.Bytes.{bytes-take}
 use Rattle.bits.specs.Packed.{bytesFor}
-use Rattle.writer.specs.Write.{Report, report, line, contentOf, roomRefusal, writeRefusal, writeOf}
-use Rattle.line.specs.RoundTrip.{Bytes}
-use Rattle.writer.proofs.Lining.{take-small}
+use Rattle.writer.specs.Write.{report, line, contentOf, writeRefusal, writeOf}
 use Rattle.writer.proofs.Writing.{write-within}
 use Rattle.line.proofs.Round.{calls-give, read-is-written}
 use Rattle.side.specs.Given.{Given, giving, refused, refusing, sizeGiven}
@@ -42,7 +41,7 @@ use Rattle.link.specs.Runs.{carried}
 use Rattle.link.proofs.Sides.{front}
 use Rattle.link.proofs.Passes.{order-passes, response-passes}
 use Rattle.link.proofs.Through.{order-address, moved-address}
-use Rattle.paper.specs.Fit.{Fits, Typed, OrdersFit, StepsFit, ReadingsFit}
+use Rattle.paper.specs.Fit.{Fits, OrdersFit, StepsFit, ReadingsFit}
 
 -- ---- the writer and the reader
 
@@ -74,7 +73,7 @@ module _ (held : List ℕ) (size : length held ≡ 253) (bytes : Bytes held) whe
   said-fits l out small ha hf =
       let same : take (l .size) held ≡ take (l .size) (laid (l .size) held out) = sym (front (l .size) held out (omega arith)) in
       subst (λ (x : List ℕ). Fits (record { address = l .address; meaning = l .meaning; information = x })) same
-      (fits (l .address) (l .meaning) (take (l .size) held) ha hf (take-small (l .size) held bytes) (omega (arith, length-take (l .size) held)))
+      (fits (l .address) (l .meaning) (take (l .size) held) ha hf (bytes-take (l .size) held bytes) (omega (arith, length-take (l .size) held)))
 
 -- what is given was not refused
 answer-of : {A E : Type 0} (n : ℕ) (e f : E) (v : A) → refusing n e (giving v f) .answer ≡ unless n v

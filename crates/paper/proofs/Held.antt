@@ -1,17 +1,16 @@
 -- The bytes of the held message's array are bytes after every event of a run, where every message that is put is of bytes.
 -- Assumes nothing.
-use Prim.Native.Nat.{ℕ, zero, suc, _+_, _<_}
+use Prim.Native.Nat.{ℕ}
 use mathlib.Core.Path.{_≡_, refl, sym, _∙_, subst}
 use mathlib.Core.Bool.{Bool, not}
-use mathlib.Core.List.{List, _++_}
+use mathlib.Core.List.{List}
 use lib.Dec.{eqb}
-use lib.ListN.{length, getD, drop}
-use lib.Seq.{getD-drop}
+use lib.ListN.{length, drop}
+use Rattle.frame.specs.Bytes.{Bytes}
 use Rattle.frame.specs.declared.Meaning.{Meaning}
 use Rattle.frame.specs.declared.Meaning.the-variants.{I, Rr, Rnr, Snrm, Disc, Ua, Frmr}
 use Rattle.frame.proofs.Laws.{pick-both}
-use Rattle.line.specs.RoundTrip.{Bytes}
-use Rattle.line.proofs.Round.{bytes-append}
+use Rattle.frame.proofs.Bytes.{bytes-append, bytes-drop}
 use Rattle.side.specs.Given.{Given}
 use Rattle.side.specs.Right.{addressWrong}
 use Rattle.side.specs.Side.{synchronised}
@@ -40,9 +39,6 @@ use Rattle.link.specs.Runs.{OnLine, quiet, asks, answers, World, Event, masterP
 use Rattle.link.proofs.Sides.{rule-held}
 
 -- ---- one side
-
-bytes-drop : (n : ℕ) (x : List ℕ) → Bytes x → Bytes (drop n x)
-bytes-drop n x b i = subst (λ (v : ℕ). v < 256) (sym (getD-drop n x i 0)) (b (n + i))
 
 put-bytes : (s : Side) (m : List ℕ) → Bytes m → Bytes (s .held) → Bytes (putOf s m .end .held)
 unfolding putOf

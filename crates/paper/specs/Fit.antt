@@ -3,12 +3,12 @@ use Prim.Native.Nat.{ℕ, _≤_}
 use mathlib.Core.Path.{_≡_}
 use mathlib.Core.List.{List, [], _∷_}
 use lib.ListN.{length}
+use Rattle.frame.specs.Bytes.{Bytes}
 use Rattle.frame.specs.Answer.{gives, Lists}
 use Rattle.frame.specs.Carried.{Carried}
 use Rattle.frame.specs.declared.Meaning.{Meaning}
 use Rattle.writer.specs.Write.{Report, writeOf, writeBytes}
 use Rattle.reader.specs.Read.{fitting, readOf}
-use Rattle.line.specs.RoundTrip.{Bytes}
 use Rattle.side.specs.declared.Side.{Side}
 use Rattle.side.specs.declared.answer.Line.{Line}
 use Rattle.side.specs.declared.answer.News.{News}

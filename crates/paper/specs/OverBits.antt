@@ -4,11 +4,11 @@ use Prim.Native.Nat.{ℕ}
 use mathlib.Core.Path.{_≡_}
 use mathlib.Core.List.{List, [], _∷_}
 use lib.ListN.{length}
+use Rattle.frame.specs.Bytes.{Bytes}
 use Rattle.frame.specs.Answer.{Answer, gives, refuses}
 use Rattle.frame.specs.Carried.{Carried}
 use Rattle.writer.specs.Write.{Report, writeOf, writeBytes}
 use Rattle.reader.specs.Read.{readOf}
-use Rattle.line.specs.RoundTrip.{Bytes}
 use Rattle.slave.specs.declared.Slave.{Slave}
 use Rattle.master.specs.declared.Master.{Master}
 use Rattle.delivery.specs.Runs.{Logs}

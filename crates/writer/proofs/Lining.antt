@@ -1,15 +1,17 @@
 -- Flag, content, flag: how many bits and bytes that is, and that the bytes laid are the bytes stated.
 -- Assumes nothing.
 use Prim.Native.Nat.{ℕ, _+_, _*_, _/_, _%_, _≤_, _<_}
-use mathlib.Core.Path.{_≡_, _∙_, refl, sym, ap, ap₂, subst}
-use mathlib.Core.Bool.{Bool, true, false}
+use mathlib.Core.Path.{_≡_, _∙_, sym, ap, ap₂, subst}
+use mathlib.Core.Bool.{Bool, true}
 use mathlib.Core.List.{List, [], _∷_, _++_, append-assoc}
 use native.Mathlib.Omega.{arith}
 use lib.Dec.{ltb}
-use lib.ListN.{length, take, drop, getD, replicate, length-append, take-append-drop, length-take, List·getD-eq-default}
-use lib.Seq.{take-at, length-take-le, getD-take, take-take, take-append-seam, take-append-le}
-use borrow.Author.Tests.{ltb-true, ltb-false, lt-ltb, le-ltb}
+use lib.ListN.{length, take, drop, replicate, length-append, take-append-drop}
+use lib.Seq.{take-at, length-take-le, take-take, take-append-seam, take-append-le}
+use borrow.Author.Tests.{ltb-false, lt-ltb, le-ltb}
+use Rattle.frame.specs.Bytes.{Bytes}
 use Rattle.frame.proofs.Laws.{pick-second}
+use Rattle.frame.proofs.Bytes.{bytes-take}
 use Rattle.bits.specs.Bits.{low, bitsOf, bytesOf}
 use Rattle.bits.specs.Flag.{flag}
 use Rattle.bits.specs.Insert.{insert}
@@ -46,18 +48,9 @@ module _ {old o1 o2 o3 : List ℕ} {s1 s2 s3 : Sink} (content : List ℕ) where
       (ap (λ (f : List Bool). f ++ insert 0 (bitsOf content) ++ f) flag-bits ∙ append-assoc flag (insert 0 (bitsOf content)) flag)
       (added-on (added-on a b) c)
 
--- the first bytes of bytes are bytes
-pub take-small : (n : ℕ) (o : List ℕ) → ((i : ℕ) → getD o i 0 < 256) → (i : ℕ) → getD (take n o) i 0 < 256
-take-small n o h i = go (ltb i n) refl
-  where
-    go : (t : Bool) → ltb i n ≡ t → getD (take n o) i 0 < 256
-    go true e = subst (λ (x : ℕ). x < 256) (sym (getD-take n o i 0 (ltb-true i n e))) (h i)
-    go false e =
-        subst (λ (x : ℕ). x < 256) (sym (List·getD-eq-default (take n o) 0 (let d = ltb-false i n e in omega (arith, length-take n o)))) (omega arith)
-
 -- the line's bits with seven ones behind them, of which those that wait are dropped
 pub laid-bytes : {old out : List ℕ} {s : Sink} (bits : List Bool) → Added old none (bits ++ low 7 0x7f) out s
-    → ((i : ℕ) → getD out i 0 < 256) → bytesFor (length bits) ≤ length old → out ≡ laid bits old
+    → Bytes out → bytesFor (length bits) ≤ length old → out ≡ laid bits old
 unfolding laid padded sofar bitsOf low
 laid-bytes {old} {out} {s} bits a small room =
     let few = a .sound .few in let p = a .place in let l = a .long in
@@ -67,7 +60,7 @@ laid-bytes {old} {out} {s} bits a small room =
     let eight : length (bitsOf first) ≡ 8 * s .at = length-bitsOf first ∙ ap (λ (n : ℕ). 8 * n) (length-take-le (s .at) out enough) in
     let stored : bitsOf first ≡ take (8 * s .at) (bits ++ replicate 7 true) = sym (take-at (bitsOf first) (low (s .waits) (s .acc)) (8 * s .at) eight) ∙ ap (take (8 * s .at)) (a .bits) in
     let bytes : first ≡ bytesOf (s .at) (take (8 * s .at) (bits ++ replicate 7 true)) =
-    sym (bytes-back first (take-small (s .at) out small)) ∙ ap₂ bytesOf (length-take-le (s .at) out enough) stored in
+    sym (bytes-back first (bytes-take (s .at) out small)) ∙ ap₂ bytesOf (length-take-le (s .at) out enough) stored in
     sym (take-append-drop (s .at) out) ∙ ap₂ (λ (x y : List ℕ). x ++ y) bytes (a .rest)
     ∙ ap (λ (n : ℕ). bytesOf n (take (8 * n) (bits ++ replicate 7 true)) ++ drop n old) at
 
