@@ -81,10 +81,10 @@ side-back x y s rest t =
     λ i. record {
       ns = s .ns;
       nr = s .nr;
-      held = held-back (s .held) (s .incoming) rest (t .held) i;
+      held = held-back (s .held) (s .incoming) rest (t .arrays .held) i;
       holds = eight (s .holds) (t .holds) i;
       sent = mark-back (s .sent) i;
-      incoming = incoming-back (s .held) (s .incoming) rest (t .held) (t .incoming) i;
+      incoming = incoming-back (s .held) (s .incoming) rest (t .arrays .held) (t .arrays .incoming) i;
       waits = eight (s .waits) (t .waits) i;
       doubt = mark-back (s .doubt) i;
     }
@@ -121,7 +121,7 @@ doubt-at m = refl
 module _ (m : Master) (t : Typed (m .side)) where
   tail : (k : ℕ) → getD (masterBytes m) (528 + k) 0 ≡ getD (masterTail m) k 0
   unfolding masterBytes
-  tail k = tail-at (masterModeByte (m .mode)) (m .address) (sideBytes (m .side)) (masterTail m) k (side-length (m .side) (t .held) (t .incoming))
+  tail k = tail-at (masterModeByte (m .mode)) (m .address) (sideBytes (m .side)) (masterTail m) k (side-length (m .side) (t .arrays .held) (t .arrays .incoming))
 
   master-right : masterWrong (masterBytes m) ≡ 0
   unfolding masterWrong marksWrong masterTail

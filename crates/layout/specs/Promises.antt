@@ -5,16 +5,16 @@ use mathlib.Core.Logic.{_⊎_}
 use mathlib.Core.List.{List}
 use lib.ListN.{length}
 use Rattle.frame.specs.Bytes.{Bytes}
+use Rattle.side.specs.Side.{Arrays}
 use Rattle.side.specs.declared.Side.{Side}
 use Rattle.slave.specs.declared.Slave.{Slave}
 use Rattle.master.specs.declared.Master.{Master}
 use Rattle.layout.specs.SlaveLayout.{slaveAt, slaveBytes, slaveWrong}
 use Rattle.layout.specs.MasterLayout.{masterAt, masterBytes, masterWrong}
 
--- what the code's types say of a side: 253 bytes in each slot, and sizes of eight bytes
+-- what the code's types say of a side: arrays of 253 bytes, and sizes of eight bytes
 pub record Typed (s : Side) : Type 0 where
-  pub held : length (s .held) ≡ 253
-  pub incoming : length (s .incoming) ≡ 253
+  pub arrays : Arrays s
   pub holds : s .holds < 2 ^ 64
   pub waits : s .waits < 2 ^ 64
 

@@ -12,7 +12,8 @@ use Rattle.master.specs.Master as master
 use Rattle.master.proofs.Keeps as master-keeps
 use Rattle.link.specs.Runs.{OnLine, quiet, asks, answers, World, Event, masterPut, slavePut, masterTake, slaveTake, masterClear, slaveClear, order, arrives, hears as heard, lost, foreign, overhears, silence, bears, arrive, hear, made, step, run}
 use Rattle.link.specs.Through.{AlwaysComesThrough}
-use Rattle.link.proofs.Worlds.{kept, sized-run}
+use Rattle.link.proofs.Worlds.{kept}
+use Rattle.link.proofs.Slots.{sized-run}
 use Rattle.link.proofs.Made.{made-arrays}
 use Rattle.link.proofs.Through.{comes-through}
 
@@ -60,7 +61,7 @@ module _ (a l : ℕ) where
         master = r .0;
         slave = r .1;
         address = k .master .address ∙ p .address;
-        own = k .slave .address ∙ p .own;
+        own = k .slave ∙ p .own;
         limit = k .master .limit ∙ p .limit;
       }
 

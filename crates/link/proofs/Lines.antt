@@ -10,6 +10,7 @@ use Rattle.frame.specs.Answer.{gives}
 use Rattle.frame.specs.declared.Meaning.{Meaning}
 use Rattle.frame.proofs.Laws.{pick-cases, pick-first, pick-second, then-zero}
 use Rattle.side.specs.Given.{Given, giving, refused, sizeGiven}
+use Rattle.side.specs.Side.{Arrays}
 use Rattle.side.specs.Slot.{laid}
 use Rattle.side.specs.declared.answer.Line.{Line}
 use Rattle.side.specs.declared.answer.News.{News}
@@ -26,7 +27,7 @@ use Rattle.delivery.specs.Runs as lists
 use Rattle.delivery.specs.Runs.{logConfirmed, logHanded}
 use Rattle.delivery.specs.Exchanges.{begins, ends, neither}
 use Rattle.delivery.specs.Exchanges as exchanges
-use Rattle.link.specs.Ends.{Arrays, rules, frameOf, slaveOf, masterOf}
+use Rattle.link.specs.Ends.{rules, frameOf, slaveOf, masterOf}
 use Rattle.frame.specs.Carried.{Carried}
 use Rattle.link.specs.Runs.{OnLine, quiet, asks, answers, World, order, arrives, hears, foreign, silence, bears, onLine, orderLine, answered, arrive, concluded, hear, step, lineOf, overLists}
 use Rattle.link.specs.Exchanges.{beginning, ending, hearing}

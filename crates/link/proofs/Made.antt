@@ -4,14 +4,14 @@ use Prim.Native.Nat.{ℕ}
 use mathlib.Core.Path.{_≡_, refl}
 use mathlib.Core.Bool.{false}
 use Rattle.frame.specs.Refusal.{addressRefusal}
+use Rattle.side.specs.Side.{Arrays}
 use Rattle.side.proofs.Calls.{refusing-keeps}
+use Rattle.side.proofs.Slots.{fresh-arrays}
 use Rattle.slave.specs.Slave as slave
 use Rattle.slave.specs.declared.Slave.{Slave}
 use Rattle.master.specs.Master as master
 use Rattle.master.specs.declared.Master.{Master}
-use Rattle.link.specs.Ends.{Arrays}
 use Rattle.link.specs.Runs.{made, Sized}
-use Rattle.link.proofs.Sizes.{fresh-arrays}
 
 pub made-arrays : (a l b : ℕ) → Sized (made a l b)
 unfolding master.makeOf slave.makeOf

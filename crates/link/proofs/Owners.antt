@@ -10,7 +10,7 @@ use Rattle.frame.specs.Refusal.{frameRefusal}
 use Rattle.frame.specs.declared.Meaning.{Meaning}
 use Rattle.frame.proofs.Laws.{pick-cases, then-zero}
 use Rattle.side.specs.Given.{Given, giving, refused, refusing, lifted, sizeGiven}
-use Rattle.side.specs.Side.{cleared}
+use Rattle.side.specs.Side.{cleared, Arrays}
 use Rattle.side.specs.Right.{addressWrong}
 use Rattle.side.specs.Slot.{putRefusal, withHeld, putOf, takeRefusal, emptied, takeOf, laid, roomRefusal}
 use Rattle.side.specs.declared.Side.{Side}
@@ -27,7 +27,7 @@ use Rattle.delivery.specs.Link.{Message}
 use Rattle.delivery.specs.Runs as lists
 use Rattle.delivery.specs.Runs.{logPut, logTaken}
 use Rattle.delivery.specs.Exchanges.{neither}
-use Rattle.link.specs.Ends.{Arrays, endOf}
+use Rattle.link.specs.Ends.{endOf}
 use Rattle.link.specs.Runs.{World, masterPut, slavePut, masterTake, slaveTake, masterClear, slaveClear, overhears, bears, putTold, takenTold, masterCalled, slaveCalled, step, overLists}
 use Rattle.link.proofs.Does.{Does, refusing-cases, put-nothing, taken-nothing}
 use Rattle.link.proofs.Sides.{put-seen, front, take-seen, clear-seen}

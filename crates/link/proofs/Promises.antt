@@ -29,7 +29,7 @@ use Rattle.link.specs.LivenessInWords.{LivenessInWords}
 use Rattle.link.specs.Demand.{Demand}
 use Rattle.link.proofs.Sides.{held-message}
 use Rattle.link.proofs.Made.{made-arrays, made-idle}
-use Rattle.link.proofs.Worlds.{sized, sized-run}
+use Rattle.link.proofs.Slots.{sized, sized-run}
 use Rattle.link.proofs.Simulation.{does, runs}
 use Rattle.link.proofs.Starts.{is-connecting, is-linked, is-nrm, start-over, start-back}
 

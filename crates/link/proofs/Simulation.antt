@@ -19,7 +19,7 @@ use Rattle.link.specs.LivenessInWords.{RoomAt, Roomy}
 use Rattle.link.proofs.Does.{Does}
 use Rattle.link.proofs.Owners as owners
 use Rattle.link.proofs.Lines as lines
-use Rattle.link.proofs.Worlds.{sized}
+use Rattle.link.proofs.Slots.{sized}
 
 pub does : (w : World) (e : Event) → Sized w → Does (overLists w) (overLists (step w e)) (turn w e)
 does w (masterPut m) a = owners.master-put w m

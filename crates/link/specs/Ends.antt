@@ -1,10 +1,9 @@
 -- The ends of the code as `delivery` sees them: bytes and sizes read as messages.
 use Prim.Native.Nat.{ℕ}
-use mathlib.Core.Path.{_≡_}
 use mathlib.Core.Bool.{false}
 use mathlib.Core.List.{List, [], _∷_}
 use lib.Dec.{eqb}
-use lib.ListN.{length, take}
+use lib.ListN.{take}
 use Rattle.frame.specs.Pick.{pick}
 use Rattle.frame.specs.declared.Meaning.{Meaning}
 use Rattle.frame.specs.declared.Meaning.the-variants.{I, Rr, Rnr, Snrm, Disc, Ua, Frmr}
@@ -21,11 +20,6 @@ use Rattle.delivery.specs.Link.{Message, Held, none, unsent, sent, End, Frame, 
 -- 01 as it stands: one incoming slot, and Nr one ahead confirms whatever is held.
 abbrev pub rules : Rules
 rules = record { capacity = 1; sentOnly = false }
-
--- 01, "Where each form belongs": "arrays for the held and the incoming message", of 253 bytes each; so the type says of every struct of the code.
-pub record Arrays (s : Side) : Type 0 where
-  pub held : length (s .held) ≡ 253
-  pub incoming : length (s .incoming) ≡ 253
 
 -- The message in a slot: its first n bytes; a size of 0 means that there is none.
 abbrev pub message : List ℕ → ℕ → List Message

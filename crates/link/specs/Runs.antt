@@ -10,6 +10,7 @@ use Rattle.frame.specs.Answer.{Answer, gives, refuses}
 use Rattle.frame.specs.Carried.{Carried}
 use Rattle.frame.specs.declared.Meaning.{Meaning}
 use Rattle.side.specs.Given.{Given}
+use Rattle.side.specs.Side.{Arrays}
 use Rattle.side.specs.declared.answer.Change.the-variants.{Same}
 use Rattle.side.specs.declared.answer.Line.{Line}
 use Rattle.side.specs.declared.answer.News.{News}
@@ -23,7 +24,7 @@ use Rattle.master.specs.declared.Master.{Master}
 use Rattle.delivery.specs.Link.{Message}
 use Rattle.delivery.specs.Runs as lists
 use Rattle.delivery.specs.Runs.{Logs, blank, logPut, logConfirmed, logHanded, logTaken}
-use Rattle.link.specs.Ends.{Arrays, message, frameOf, slaveOf, masterOf}
+use Rattle.link.specs.Ends.{message, frameOf, slaveOf, masterOf}
 
 -- What a call has put on the line: the address and the meaning that it told, and its information, which is as many bytes as it told from the front
 -- of the buffer lent to it.

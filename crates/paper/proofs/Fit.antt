@@ -101,7 +101,7 @@ orders-fit m t tick out l e =
     let same : carried l (laid (l .size) held out) ≡ carried l (orderBytes m tick out) =
     ap (λ (x : Answer Line). carried l (laid (sizeGiven (λ (y : Line). y .size) x) held out)) (sym e) in
     subst Fits same
-    (said-fits held (t .arrays .held) (t .held) l out
+    (said-fits held (t .held .0) (t .held .1) l out
     (subst (λ (x : Line). x .size ≤ 253) (g .1) (master-keeps.order-fits m tick (length out) (g .0) .0))
     (ap addressRefusal (ap (λ (x : Line). x .address) (sym (g .1)) ∙ order-address m tick) ∙ right .0)
     (subst (λ (x : Line). frameRefusal (x .meaning) (take (x .size) held) ≡ 0) (g .1) (order-passes m tick (right .1))))
@@ -126,7 +126,7 @@ steps-fit s t a f k out l n e =
     let same : carried l (laid (l .size) held out) ≡ carried l (stepBytes s a f k out) =
     ap (λ (y : Answer (Line × News)). carried l (laid (sizeGiven (λ (v : Line × News). v .0 .size) y) held out)) (sym e) in
     subst Fits same
-    (said-fits held (t .arrays .held) (t .held) l out
+    (said-fits held (t .held .0) (t .held .1) l out
     (subst (λ (y : Line). y .size ≤ 253) line (slave-keeps.step-fits s a f k (length out) (g .0) .0))
     (ap addressRefusal (ap (λ (y : Line). y .address) (sym line) ∙ moved-address s f k) ∙ right .0)
     (subst (λ (y : Line). frameRefusal (y .meaning) (take (y .size) held) ≡ 0) line (response-passes s f k (right .1) (right .2))))

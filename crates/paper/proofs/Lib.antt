@@ -14,5 +14,4 @@ pub mod Outcomes
 pub mod Numbers
 pub mod Witnesses
 pub mod Fit
-pub mod Held
 pub mod OverBits

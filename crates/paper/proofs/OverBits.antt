@@ -4,20 +4,24 @@ use Prim.Native.Nat.{ℕ, _≤_}
 use mathlib.Core.Path.{_≡_, refl, sym, _∙_, ap, subst}
 use mathlib.Core.Bool.{Bool, true, false}
 use mathlib.Core.List.{List, [], _∷_, _++_}
-use native.Mathlib.Omega.{arith}
 use lib.Dec.{eqb, ltb}
-use lib.ListN.{length}
+use lib.ListN.{length, drop}
 use borrow.Author.Tests.{le-ltb}
+use Rattle.frame.specs.Bytes.{Bytes}
 use Rattle.frame.specs.Pick.{pick}
 use Rattle.frame.specs.Answer.{Answer, gives, refuses, unless}
 use Rattle.frame.specs.Carried.{Carried}
 use Rattle.frame.specs.declared.Meaning.{Meaning}
 use Rattle.frame.proofs.Laws.{pick-both}
+use Rattle.frame.proofs.Bytes.{bytes-append, bytes-drop}
 use Rattle.writer.specs.Write.{Report, writeOf, writeBytes}
 use Rattle.reader.specs.Read.{fitting, readOf}
-use Rattle.side.specs.Given.{Given, giving, refused, refusing}
+use Rattle.side.specs.Given.{Given}
+use Rattle.side.specs.Side.{Arrays}
+use Rattle.side.specs.declared.Side.{Side}
 use Rattle.side.specs.declared.answer.Line.{Line}
 use Rattle.side.specs.declared.answer.News.{News}
+use Rattle.side.proofs.Slots.{Lays, lays-size}
 use Rattle.slave.specs.Step.{stepOf, stepBytes}
 use Rattle.slave.specs.declared.Slave.{Slave}
 use Rattle.master.specs.Order.{orderOf, orderBytes}
@@ -26,12 +30,11 @@ use Rattle.master.specs.declared.Master.{Master}
 use Rattle.link.specs.Runs as frames
 use Rattle.link.specs.Runs.{OnLine, carried, bears, orderLine, stepLine, heardLine, answered, concluded}
 use Rattle.link.specs.Safety.{Safe}
-use Rattle.link.proofs.Worlds.{sized}
+use Rattle.link.proofs.Slots.{PutLays, both-slots}
 use Rattle.link.proofs.Promises.{safety}
-use Rattle.paper.specs.Fit.{Fits, Typed}
+use Rattle.paper.specs.Fit.{Fits, Array, Typed}
 use Rattle.paper.specs.OverBits.{OnWire, quiet, asks, answers, World, Event, masterPut, slavePut, masterTake, slaveTake, masterClear, slaveClear, order, arrives, hears, lost, foreign, overhears, silence, framed, wired, onWire, written, said, onLine, heard, called, ordered, arrive, left, hear, told, step, run, asFrames, Typable, OfBytes, AllOfBytes, RunsOfFrames, SafetyOverBits}
 use Rattle.paper.proofs.Fit.{orders-fit, steps-fit}
-use Rattle.paper.proofs.Held.{HeldBytes, PutBytes, held-bytes}
 
 -- ---- the line
 
@@ -71,18 +74,17 @@ pub record Follows (w w′ : World) : Type 0 where
   pub events : List frames.Event
   pub same : asFrames w′ ≡ frames.run (asFrames w) events
 
+-- a message of bytes leaves an array of bytes
+lays-bytes : (m : List ℕ) → Bytes m → Lays Array m
+lays-bytes m b slot fits a =
+    (lays-size m slot fits (a .0), bytes-append m (drop (length m) slot) b (bytes-drop (length m) slot (a .1)))
+
 -- the ends after an event over frames, whatever is on the line
 module _ (w : World) (r : Ready w) where
-  typed : (l : OnLine) (e : frames.Event) → PutBytes e → (x : OnWire) → Legible x → Ready (wired x (frames.step (framed l w) e))
+  typed : (l : OnLine) (e : frames.Event) → PutLays Array e → (x : OnWire) → Legible x → Ready (wired x (frames.step (framed l w) e))
   typed l e p x legible =
-      let v = framed l w in
-      let a = sized v e (record { master = r .master .arrays; slave = r .slave .arrays }) in
-      let b = held-bytes v e p (record { master = r .master .held; slave = r .slave .held }) in
-      record {
-        master = record { arrays = a .master; held = b .master };
-        slave = record { arrays = a .slave; held = b .slave };
-        wire = legible;
-      }
+      let b = both-slots lays-size (framed l w) e p (record { master = r .master; slave = r .slave }) in
+      record { master = b .master; slave = b .slave; wire = legible }
 
   unmoved : Follows w w
   unmoved = record { ready = r; events = []; same = refl }
@@ -280,8 +282,8 @@ module _ (w : World) (r : Ready w) where
   tells e f (refuses n) = unmoved
 
 follows : (w : World) → Ready w → (e : Event) → OfBytes e → Follows w (step w e)
-follows w r (masterPut m) p = record { ready = typed w r frames.quiet (frames.masterPut m) p (w .wire) (r .wire); events = frames.masterPut m ∷ []; same = refl }
-follows w r (slavePut m) p = record { ready = typed w r frames.quiet (frames.slavePut m) p (w .wire) (r .wire); events = frames.slavePut m ∷ []; same = refl }
+follows w r (masterPut m) p = record { ready = typed w r frames.quiet (frames.masterPut m) (lays-bytes m p) (w .wire) (r .wire); events = frames.masterPut m ∷ []; same = refl }
+follows w r (slavePut m) p = record { ready = typed w r frames.quiet (frames.slavePut m) (lays-bytes m p) (w .wire) (r .wire); events = frames.slavePut m ∷ []; same = refl }
 follows w r (masterTake out) p = record { ready = typed w r frames.quiet (frames.masterTake out) tt (w .wire) (r .wire); events = frames.masterTake out ∷ []; same = refl }
 follows w r (slaveTake out) p = record { ready = typed w r frames.quiet (frames.slaveTake out) tt (w .wire) (r .wire); events = frames.slaveTake out ∷ []; same = refl }
 follows w r masterClear p = record { ready = typed w r frames.quiet frames.masterClear tt (w .wire) (r .wire); events = frames.masterClear ∷ []; same = refl }
@@ -303,6 +305,9 @@ runs w r (e ∷ es) p =
     let rest = runs (step w e) (f .ready) es (p .1) in
     (f .events ++ rest .0, rest .1 ∙ ap (λ (v : frames.World). frames.run v (rest .0)) (f .same) ∙ sym (run-on (asFrames w) (f .events) (rest .0)))
 
+sizes : {s : Side} → Typed s → Arrays s
+sizes t = record { held = t .held .0; incoming = t .incoming }
+
 begins : (start : World) → Typable start → Ready start
 begins start t = record { master = t .master; slave = t .slave; wire = subst Legible (sym (t .wire)) tt }
 
@@ -312,4 +317,4 @@ runs-of-frames start t es p = runs start (begins start t) es p
 pub safety-over-bits : SafetyOverBits
 safety-over-bits start t s es p =
     let f = runs-of-frames start t es p in
-    subst Safe (sym (f .1)) (safety (asFrames start) (record { master = t .master .arrays; slave = t .slave .arrays }) s (f .0))
+    subst Safe (sym (f .1)) (safety (asFrames start) (record { master = sizes (t .master); slave = sizes (t .slave) }) s (f .0))

@@ -9,6 +9,7 @@ use Rattle.frame.specs.Carried.{Carried}
 use Rattle.frame.specs.declared.Meaning.{Meaning}
 use Rattle.writer.specs.Write.{Report, writeOf, writeBytes}
 use Rattle.reader.specs.Read.{fitting, readOf}
+use Rattle.side.specs.Side.{Slots}
 use Rattle.side.specs.declared.Side.{Side}
 use Rattle.side.specs.declared.answer.Line.{Line}
 use Rattle.side.specs.declared.answer.News.{News}
@@ -17,7 +18,6 @@ use Rattle.slave.specs.declared.Slave.{Slave}
 use Rattle.master.specs.Order.{orderOf, orderBytes}
 use Rattle.master.specs.Response.{responseOf}
 use Rattle.master.specs.declared.Master.{Master}
-use Rattle.link.specs.Ends.{Arrays}
 use Rattle.link.specs.Runs.{carried}
 
 -- A frame that goes over the line. The writer takes it "whenever the buffer has 311 bytes" (01, "Bits between flags": "311 buffer bytes");
@@ -29,10 +29,13 @@ pub record Fits (c : Carried) : Type 0 where
   -- 253 bytes are room enough
   pub few : length (c .information) ≤ 253
 
--- The struct's type says so: arrays of 253 bytes, each of them a byte.
-pub record Typed (s : Side) : Type 0 where
-  pub arrays : Arrays s
-  pub held : Bytes (s .held)
+-- an array of 253 bytes
+abbrev pub Array : List ℕ → Type 0
+Array x = (length x ≡ 253) × Bytes x
+
+-- The struct's type says so: arrays of 253 bytes, each of them a byte; that is asked of the held message's array only.
+abbrev pub Typed : Side → Type 0
+Typed s = Slots Array (λ x. length x ≡ 253) s
 
 -- What a master orders and what a slave answers goes over the line. An order or an answer that is given is a right end's: 30 is tested before all others.
 abbrev pub OrdersFit : Type 0

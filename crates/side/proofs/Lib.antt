@@ -3,6 +3,7 @@ pub mod Parts
 pub mod Steps
 pub mod Calls
 pub mod Keeps
+pub mod Slots
 pub mod Whole
 pub mod Numbers
 pub mod LosesNothing

@@ -1,8 +1,9 @@
--- What both ends hold (01, "One end of a link"), made fresh, restarted and synchronised.
+-- What both ends hold (01, "One end of a link"), made fresh, restarted and synchronised, and what is said of its two arrays.
 use Prim.Native.Nat.{ℕ}
+use mathlib.Core.Path.{_≡_}
 use mathlib.Core.Bool.{Bool, true, false}
 use mathlib.Core.List.{List}
-use lib.ListN.{replicate}
+use lib.ListN.{length, replicate}
 use Rattle.frame.specs.Pick.{pick}
 use Rattle.side.specs.declared.Side.{Side}
 
@@ -91,3 +92,12 @@ dropped s = withDoubt true (withOutgoing (s .held) 0 false s)
 -- 01, "Synchronising": "counts to zero"; what was sent is dropped; "an unsent one stays"
 unfoldable pub synchronised : Side → Side
 synchronised s = pick (s .sent) (dropped (restarted s)) (restarted s)
+
+-- what holds of the arrays of the held and of the incoming message
+pub record Slots (H J : List ℕ → Type 0) (s : Side) : Type 0 where
+  pub held : H (s .held)
+  pub incoming : J (s .incoming)
+
+-- 01, "Where each form belongs": "arrays for the held and the incoming message", of 253 bytes each; so the type says of every struct of the code.
+abbrev pub Arrays : Side → Type 0
+Arrays s = Slots (λ x. length x ≡ 253) (λ x. length x ≡ 253) s
