@@ -20,7 +20,7 @@ use Rattle.master.specs.Response.{responseOf}
 use Rattle.master.specs.declared.Master.{Master}
 use Rattle.link.specs.Runs.{carried}
 
--- A frame that goes over the line. The writer takes it "whenever the buffer has 311 bytes" (01, "Bits between flags": "311 buffer bytes");
+-- A frame that goes over the line. The writer takes it whenever its buffer has 311 bytes (01, "Bits between flags": "311 buffer bytes");
 -- and wherever the writer takes it, the reader gives it back: this frame, or 11 where the output is smaller than its information.
 pub record Fits (c : Carried) : Type 0 where
   pub taken : (room : ℕ) → 311 ≤ room → (r : Report) × (writeOf (c .address) (c .meaning) (c .information) room ≡ gives r)
