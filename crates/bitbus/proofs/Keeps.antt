@@ -35,7 +35,7 @@ use Rattle.layout.specs.Promises.{Typed}
 use Rattle.layout.proofs.Laying.{side-length, tail-length}
 use Rattle.layout.proofs.ReadBack.{read-back}
 use Rattle.bitbus.specs.Call.{after}
-use Rattle.bitbus.specs.Control.{meaningOf}
+use Rattle.layout.specs.Control.{meaningOf}
 use Rattle.bitbus.specs.SlaveCalls.{onSlave, slaveMake, slavePut, slaveTake, slaveStep, slaveRestart, slaveClear}
 use Rattle.bitbus.specs.MasterCalls.{onMaster, masterMake, masterPut, masterTake, masterOrder, masterResponse, masterSilence, masterRestart, masterClear}
 use Rattle.bitbus.specs.Promises.{RightSlave, RightMaster, Keeps}

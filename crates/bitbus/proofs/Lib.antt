@@ -1,5 +1,4 @@
 -- What each call keeps, and the theorems of this room.
 pub mod Keeps
-pub mod Crossing
 pub mod Said
 pub mod Numbers

@@ -14,7 +14,7 @@ use Rattle.master.proofs.Numbers.{numbers as master}
 use Rattle.layout.specs.SlaveLayout.{slaveAt}
 use Rattle.layout.specs.MasterLayout.{masterAt}
 use Rattle.layout.proofs.Every.{slave-two, master-two}
-use Rattle.bitbus.specs.Control.{meaningOf}
+use Rattle.layout.specs.Control.{meaningOf}
 use Rattle.bitbus.specs.SlaveCalls.{slaveMake, slavePut, slaveTake, slaveStep, slaveRestart, slaveClear}
 use Rattle.bitbus.specs.MasterCalls.{masterMake, masterPut, masterTake, masterOrder, masterResponse, masterSilence, masterRestart, masterClear}
 use Rattle.bitbus.specs.Promises.{Numbers}

@@ -40,7 +40,7 @@ use Rattle.master.specs.declared.Master.{Master}
 use Rattle.master.proofs.Keeps.{parts as master-parts}
 use Rattle.layout.specs.SlaveLayout.{slaveAt, slaveWrong}
 use Rattle.layout.specs.MasterLayout.{masterAt, masterWrong}
-use Rattle.bitbus.specs.Control.{meaningOf, controlOf}
+use Rattle.layout.specs.Control.{meaningOf, controlOf}
 use Rattle.bitbus.specs.SlaveCalls.{slaveStep}
 use Rattle.bitbus.specs.MasterCalls.{masterOrder}
 use Rattle.bitbus.specs.Promises.{Said}

@@ -3,11 +3,9 @@ use Prim.Native.Nat.{ℕ}
 use mathlib.Core.List.{List, [], _∷_, _++_}
 use Rattle.frame.specs.Answer.{Answer, gives, refuses}
 use Rattle.side.specs.Given.{Given}
-use Rattle.side.specs.declared.answer.Change.{Change}
-use Rattle.side.specs.declared.answer.Change.the-variants.{Same, Gained, Lost}
 use Rattle.side.specs.declared.answer.Line.{Line}
 use Rattle.side.specs.declared.answer.News.{News}
-use Rattle.bitbus.specs.Control.{controlOf}
+use Rattle.layout.specs.Control.{controlOf, linkNumber}
 
 -- the result: the paper's number, 0 where nothing is refused
 abbrev pub number : {A : Type 0} → Answer A → ℕ
@@ -22,12 +20,6 @@ after f (refuses n) old = old
 -- an end written back to its bytes
 abbrev pub written : {A E : Type 0} → (E → List ℕ) → List ℕ → Given A E → Given A (List ℕ)
 written {A} toBytes b g = record { answer = g .answer; end = after (λ (v : A). toBytes (g .end)) (g .answer) b }
-
--- what became of the link
-abbrev pub linkNumber : Change → ℕ
-linkNumber Same = 0
-linkNumber Gained = 1
-linkNumber Lost = 2
 
 -- the values of take: the size
 abbrev pub takeValues : ℕ → List ℕ

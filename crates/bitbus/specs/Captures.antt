@@ -3,7 +3,7 @@ use Prim.Native.Nat.{ℕ}
 use mathlib.Core.List.{List, [], _∷_}
 use Rattle.capture.specs.Record.{order, response, silence, Step, entry, end}
 use Rattle.capture.specs.declared.records.Frame.{Frame}
-use Rattle.bitbus.specs.Control.{controlOf}
+use Rattle.layout.specs.Control.{controlOf}
 
 -- a record of a frame: its way (1 order, 2 response), address, control byte, information size, and the place where the next record begins
 abbrev pub frameValues : ℕ → Frame → ℕ → List ℕ

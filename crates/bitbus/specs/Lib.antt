@@ -1,5 +1,4 @@
 -- The definitions that the promises of this room cite.
-pub mod Control
 pub mod Call
 pub mod SlaveCalls
 pub mod MasterCalls

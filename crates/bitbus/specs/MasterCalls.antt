@@ -11,7 +11,7 @@ use Rattle.master.specs.Response.{Report, brings, silent, responseOf, silenceOf
 use Rattle.master.specs.declared.Master.{Master}
 use Rattle.layout.specs.MasterLayout.{masterAt, masterBytes, masterWrong}
 use Rattle.bitbus.specs.Call.{newsValues, written}
-use Rattle.bitbus.specs.Control.{meaningOf}
+use Rattle.layout.specs.Control.{meaningOf}
 
 -- 30 of bytes that are no master; else the call on the master that they are, which is written back unless the call is refused
 abbrev pub onMaster : {A : Type 0} → List ℕ → (Master → Given A Master) → Given A (List ℕ)

@@ -1,4 +1,4 @@
--- What is promised of this room beside each function's contract. The proofs stand in proofs/Keeps, Crossing, Said and Numbers.
+-- What is promised of this room beside each function's contract. The proofs stand in proofs/Keeps, Said and Numbers.
 use Prim.Native.Nat.{ℕ, _<_, _^_}
 use mathlib.Core.Path.{_≡_}
 use mathlib.Core.List.{List, [], _∷_}
@@ -13,7 +13,7 @@ use Rattle.slave.specs.Slave.{slaveWrong as slaveEndWrong}
 use Rattle.master.specs.Master.{masterWrong as masterEndWrong, makeRefusal}
 use Rattle.layout.specs.SlaveLayout.{slaveAt, slaveWrong}
 use Rattle.layout.specs.MasterLayout.{masterAt, masterWrong}
-use Rattle.bitbus.specs.Control.{meaningOf, controlOf}
+use Rattle.layout.specs.Control.{meaningOf, controlOf}
 use Rattle.bitbus.specs.SlaveCalls.{slaveMake, slavePut, slaveTake, slaveStep, slaveRestart, slaveClear}
 use Rattle.bitbus.specs.MasterCalls.{masterMake, masterPut, masterTake, masterOrder, masterResponse, masterSilence, masterRestart, masterClear}
 
@@ -48,11 +48,6 @@ pub record Keeps : Type 0 where
   pub masterSilence : (b : List ℕ) → RightMaster b → RightMaster (masterSilence b .end)
   pub masterRestart : (b : List ℕ) → RightMaster b → RightMaster (masterRestart b .end)
   pub masterClear : (b : List ℕ) → RightMaster b → RightMaster (masterClear b .end)
-
--- a byte of the table stands for its meaning, and that meaning for the byte; any other is refused by 9 at 9's place
-pub record Crossing : Type 0 where
-  pub known : (b : ℕ) (m : Meaning) → decodeOf b ≡ gives m → (meaningOf b ≡ m) × (controlOf m ≡ b)
-  pub unknown : (b : ℕ) (information : List ℕ) → decodeOf b ≡ refuses 9 → frameRefusal (meaningOf b) information ≡ 9
 
 -- the control byte that a slave step or an order gives stands in the table, for the meaning that it gives
 pub record Said : Type 0 where

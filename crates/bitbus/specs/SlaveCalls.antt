@@ -11,7 +11,7 @@ use Rattle.slave.specs.Step.{stepOf, stepBytes}
 use Rattle.slave.specs.declared.Slave.{Slave}
 use Rattle.layout.specs.SlaveLayout.{slaveAt, slaveBytes, slaveWrong}
 use Rattle.bitbus.specs.Call.{written}
-use Rattle.bitbus.specs.Control.{meaningOf}
+use Rattle.layout.specs.Control.{meaningOf}
 
 -- 30 of bytes that are no slave; else the call on the slave that they are, which is written back unless the call is refused
 abbrev pub onSlave : {A : Type 0} → List ℕ → (Slave → Given A Slave) → Given A (List ℕ)

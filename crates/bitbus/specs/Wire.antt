@@ -5,7 +5,7 @@ use mathlib.Core.List.{List, [], _∷_}
 use Rattle.frame.specs.declared.Meaning.{Meaning}
 use Rattle.writer.specs.Write.{Report}
 use Rattle.layout.specs.Layout.{markByte}
-use Rattle.bitbus.specs.Control.{controlOf}
+use Rattle.layout.specs.Control.{controlOf}
 
 -- the values of writing: line bits, inserted zeros
 abbrev pub writeValues : Report → List ℕ

@@ -1,8 +1,8 @@
 // The exported functions of captures: one record, and the listing.
-use crate::code;
 use capture::records;
 use capture::records::Found;
 use capture::records::Frame;
+use layout::code;
 use listing::Listed;
 ghost use mathlib.Core.Path.{_≡_};
 ghost use lib.ListN.{length};

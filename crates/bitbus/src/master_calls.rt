@@ -1,5 +1,5 @@
 // The exported calls on a master, which lies in lent bytes: read, called, and written back unless the call is refused.
-use crate::code;
+use layout::code;
 use layout::master_layout;
 use master::Master;
 use master::MasterDone;

@@ -1,5 +1,5 @@
 // The exported calls on a slave, which lies in lent bytes: read, called, and written back unless the call is refused.
-use crate::code;
+use layout::code;
 use layout::slave_layout;
 use side::answer::Outcome;
 use side::answer::TakeAnswer;

@@ -1,8 +1,8 @@
 // The exported functions of the wire: check word, message check, writing, reading, NRZI both ways.
-use crate::code;
 use bits::check;
 use frame::message;
 use frame::message::Checked;
+use layout::code;
 use nrzi::Coded;
 use reader::Reading;
 use writer::Written;
@@ -15,7 +15,7 @@ ghost use Rattle.nrzi.specs.Nrzi.{codeBytes, codeOf, coded};
 ghost use Rattle.reader.specs.Read.{outAfter, readingGives, readOf, told};
 ghost use Rattle.writer.specs.Write.{writeBytes, writeOf, written};
 ghost use Rattle.bitbus.specs.Call.{after, number};
-ghost use Rattle.bitbus.specs.Control.{meaningOf};
+ghost use Rattle.layout.specs.Control.{meaningOf};
 ghost use Rattle.bitbus.specs.Wire.{levelValues, readValues, writeValues};
 
 // The check word over bytes.

@@ -2,3 +2,4 @@
 pub mod Laying
 pub mod ReadBack
 pub mod Every
+pub mod Crossing

@@ -29,8 +29,4 @@ bitbus-outcomes =
       bitbus-master-clear = λ κs a o u p q. both (meets (p .0) (q .0)) (λ i. (meets (p .1) (q .1) i, tt));
       bitbus-record = λ κs a o u p q. both (meets (p .0) (q .0)) (λ i. (tt, (tt, (meets (p .1) (q .1) i, tt))));
       bitbus-list = λ κs a o u p q. both (meets (p .0) (q .0)) (λ i. (tt, (meets (p .1 .0) (q .1 .0) i, (meets (p .1 .1) (q .1 .1) i, tt))));
-      meaning-of = λ κs a o u p q. both (meets p q) refl;
-      control-of = λ κs a o u p q. both (meets p q) refl;
-      link-number = λ κs a o u p q. both (meets p q) refl;
-      level-number = λ κs a o u p q. both (meets p q) refl;
     }

@@ -13,4 +13,8 @@ layout-outcomes =
       master-wrong = λ κs a o u p q. both (meets p q) refl;
       master-at = λ κs a o u p q. both (meets p q) refl;
       master-bytes = λ κs a o u p q. both (meets p q) refl;
+      meaning-of = λ κs a o u p q. both (meets p q) refl;
+      control-of = λ κs a o u p q. both (meets p q) refl;
+      link-number = λ κs a o u p q. both (meets p q) refl;
+      level-number = λ κs a o u p q. both (meets p q) refl;
     }

@@ -3,7 +3,6 @@ use Rattle.bitbus.proofs.wire as wire
 use Rattle.bitbus.proofs.«slave_calls» as slaves
 use Rattle.bitbus.proofs.«master_calls» as masters
 use Rattle.bitbus.proofs.captures as captures
-use Rattle.bitbus.proofs.code as code
 use Rattle.paper.specs.Outcome.{OneOutcome}
 
 pub record BitbusOutcomes : Type 0 where
@@ -29,7 +28,3 @@ pub record BitbusOutcomes : Type 0 where
   pub bitbus-master-clear : OneOutcome masters.«bitbus_master_clear».Kinds.ps masters.«bitbus_master_clear».Kinds.r masters.«bitbus_master_clear».Reads.Learnt
   pub bitbus-record : OneOutcome captures.«bitbus_record».Kinds.ps captures.«bitbus_record».Kinds.r captures.«bitbus_record».Reads.Learnt
   pub bitbus-list : OneOutcome captures.«bitbus_list».Kinds.ps captures.«bitbus_list».Kinds.r captures.«bitbus_list».Reads.Learnt
-  pub meaning-of : OneOutcome code.«meaning_of».Kinds.ps code.«meaning_of».Kinds.r code.«meaning_of».Reads.Learnt
-  pub control-of : OneOutcome code.«control_of».Kinds.ps code.«control_of».Kinds.r code.«control_of».Reads.Learnt
-  pub link-number : OneOutcome code.«link_number».Kinds.ps code.«link_number».Kinds.r code.«link_number».Reads.Learnt
-  pub level-number : OneOutcome code.«level_number».Kinds.ps code.«level_number».Kinds.r code.«level_number».Reads.Learnt

@@ -1,11 +1,11 @@
--- `bitbus::code::meaning_of` meets its contract.
+-- `layout::code::meaning_of` meets its contract.
 -- Assumes nothing.
 use mathlib.Core.Path.{_≡_}
 use Rattle.frame.specs.declared.control.Decoded.the-variants.{Known}
-use Rattle.bitbus.specs.Control.{meaningOf}
+use Rattle.layout.specs.Control.{meaningOf}
 use borrow.Author.Needs.{needs}
-use Rattle.bitbus.proofs.code.meaning_of.Statement.{statement}
-use Rattle.bitbus.proofs.code.meaning_of.Tie as tie
+use Rattle.layout.proofs.code.meaning_of.Statement.{statement}
+use Rattle.layout.proofs.code.meaning_of.Tie as tie
 
 decode-requires : tie.Need-decode-requires
 decode-requires c κs = search needs

@@ -8,8 +8,8 @@ use Rattle.frame.specs.Control.{decodeOf, countsRefusal}
 use Rattle.frame.specs.Refusal.{frameRefusal}
 use Rattle.frame.specs.declared.Meaning.{Meaning}
 use Rattle.frame.proofs.ControlBytes.{round-trip}
-use Rattle.bitbus.specs.Control.{meaningOf, controlOf}
-use Rattle.bitbus.specs.Promises.{Crossing}
+use Rattle.layout.specs.Control.{meaningOf, controlOf}
+use Rattle.layout.specs.Promises.{Crossing}
 
 known : (b : ℕ) (m : Meaning) → decodeOf b ≡ gives m → (meaningOf b ≡ m) × (controlOf m ≡ b)
 unfolding meaningOf controlOf

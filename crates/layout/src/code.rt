@@ -6,9 +6,8 @@ use frame::control::Decoded;
 use frame::control::Encoded;
 use side::answer::Change;
 ghost use mathlib.Core.Path.{_≡_};
+ghost use Rattle.layout.specs.Control.{controlOf, linkNumber, meaningOf};
 ghost use Rattle.layout.specs.Layout.{markByte};
-ghost use Rattle.bitbus.specs.Call.{linkNumber};
-ghost use Rattle.bitbus.specs.Control.{controlOf, meaningOf};
 
 // A byte that is not in the table becomes a meaning that every call refuses by 9 at 9's place.
 pub fn meaning_of(control: u8) -> Meaning

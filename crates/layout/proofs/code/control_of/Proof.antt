@@ -1,11 +1,11 @@
--- `bitbus::code::control_of` meets its contract.
+-- `layout::code::control_of` meets its contract.
 -- Assumes nothing.
 use mathlib.Core.Path.{_≡_}
 use Rattle.frame.specs.declared.control.Encoded.the-variants.{Byte}
-use Rattle.bitbus.specs.Control.{controlOf}
+use Rattle.layout.specs.Control.{controlOf}
 use borrow.Author.Needs.{needs}
-use Rattle.bitbus.proofs.code.control_of.Statement.{statement}
-use Rattle.bitbus.proofs.code.control_of.Tie as tie
+use Rattle.layout.proofs.code.control_of.Statement.{statement}
+use Rattle.layout.proofs.code.control_of.Tie as tie
 
 encode-requires : tie.Need-encode-requires
 encode-requires c κs = search needs
