@@ -3,17 +3,16 @@ use Prim.Native.Nat.{ℕ, _<_, _^_}
 use mathlib.Core.Path.{_≡_}
 use mathlib.Core.List.{List, [], _∷_}
 use lib.ListN.{length}
-use Rattle.frame.specs.Answer.{gives, refuses, Lists}
+use Rattle.frame.specs.Answer.{gives, Lists}
 use Rattle.frame.specs.Control.{decodeOf}
-use Rattle.frame.specs.Refusal.{addressRefusal, frameRefusal}
-use Rattle.frame.specs.declared.Meaning.{Meaning}
+use Rattle.frame.specs.Refusal.{addressRefusal}
 use Rattle.side.specs.declared.answer.Line.{Line}
 use Rattle.side.specs.declared.answer.News.{News}
 use Rattle.slave.specs.Slave.{slaveWrong as slaveEndWrong}
 use Rattle.master.specs.Master.{masterWrong as masterEndWrong, makeRefusal}
 use Rattle.layout.specs.SlaveLayout.{slaveAt, slaveWrong}
 use Rattle.layout.specs.MasterLayout.{masterAt, masterWrong}
-use Rattle.layout.specs.Control.{meaningOf, controlOf}
+use Rattle.layout.specs.Control.{controlOf}
 use Rattle.bitbus.specs.SlaveCalls.{slaveMake, slavePut, slaveTake, slaveStep, slaveRestart, slaveClear}
 use Rattle.bitbus.specs.MasterCalls.{masterMake, masterPut, masterTake, masterOrder, masterResponse, masterSilence, masterRestart, masterClear}
 

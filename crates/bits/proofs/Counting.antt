@@ -1,12 +1,18 @@
--- A stated bit count that number 2 lets pass.
+-- What number 2 tells of a stated bit count: its number, and a count that it lets pass.
 -- Assumes nothing.
 use Prim.Native.Nat.{ℕ, _*_, _≤_}
-use mathlib.Core.Path.{_≡_}
+use mathlib.Core.Path.{_≡_, refl}
+use mathlib.Core.List.{List, _∷_, List·Memᴰ·head as here, List·Memᴰ·tail as there}
 use native.Mathlib.Omega.{arith}
 use lib.Dec.{ltb}
 use borrow.Author.Tests.{ltb-false}
-use Rattle.frame.proofs.Laws.{pick-second}
+use Rattle.frame.specs.Answer.{Among}
+use Rattle.frame.proofs.Laws.{pick-second, pick-among}
 use Rattle.bits.specs.Count.{bitCountRefusal}
+
+pub count-numbers : (ks : List ℕ) (size bits : ℕ) → Among (bitCountRefusal size bits) (0 ∷ 2 ∷ ks)
+unfolding bitCountRefusal
+count-numbers ks size bits = pick-among (ltb 8192 bits) (there (here refl)) (pick-among (ltb (8 * size) bits) (there (here refl)) (here refl))
 
 pub count-passed : (size bits : ℕ) → bitCountRefusal size bits ≡ 0 → (bits ≤ 8192) × (bits ≤ 8 * size)
 unfolding bitCountRefusal

@@ -2,7 +2,6 @@
 -- Assumes nothing.
 use mathlib.Core.Path.{_≡_, refl, ap}
 use Rattle.capture.specs.declared.records.Found.the-variants.{Order, Response, Silence, End, Refused}
-use Rattle.capture.specs.Record.{found}
 use Rattle.capture.specs.Promises.{LosesNothing}
 
 pub loses-nothing : LosesNothing

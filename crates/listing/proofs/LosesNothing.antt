@@ -2,7 +2,6 @@
 -- Assumes nothing.
 use mathlib.Core.Path.{_≡_, ap}
 use Rattle.listing.specs.declared.Listed.the-variants.{Text, Refused}
-use Rattle.listing.specs.Listing.{listed}
 use Rattle.listing.specs.Promises.{LosesNothing}
 
 pub loses-nothing : LosesNothing

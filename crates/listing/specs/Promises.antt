@@ -8,7 +8,7 @@ use Rattle.listing.specs.declared.Listed.{Listed}
 use Rattle.listing.specs.declared.Listed.the-variants.{Text}
 use Rattle.listing.specs.Text.{ascii}
 use Rattle.listing.specs.Decimal.{decimal}
-use Rattle.listing.specs.Listing.{linesFrom, header, listing, listOf, listBytes as bytesListed, listed}
+use Rattle.listing.specs.Listing.{linesFrom, header, listing, listOf, listed}
 
 -- "A number outside a call's list is not given by that call."
 abbrev pub Numbers : Type 0

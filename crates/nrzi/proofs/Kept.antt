@@ -1,7 +1,7 @@
 -- The promises of NRZI, kept.
 -- Assumes nothing.
 use Prim.Native.Nat.{ℕ, _*_}
-use mathlib.Core.Path.{_≡_, _∙_, refl, sym, ap}
+use mathlib.Core.Path.{_≡_, _∙_, refl, ap}
 use mathlib.Core.Bool.{Bool}
 use mathlib.Core.List.{List, [], _∷_, List·Memᴰ·head as here, List·Memᴰ·tail as there}
 use native.Mathlib.Omega.{arith}
@@ -12,9 +12,9 @@ use borrow.Author.Tests.{eq-eqb}
 use Rattle.frame.proofs.Laws.{pick-among, then-among, unless-lists}
 use Rattle.bits.specs.Bits.{bitsOf, bytesOf}
 use Rattle.bits.specs.Packed.{bytesFor, over}
-use Rattle.bits.specs.Count.{bitCountRefusal}
+use Rattle.bits.proofs.Counting.{count-numbers}
 use Rattle.bits.proofs.BitLaws.{length-bitsOf, bits-back}
-use Rattle.nrzi.specs.Nrzi.{coding, reached, nrziRefusal, codeOf, codeBytes, coded}
+use Rattle.nrzi.specs.Nrzi.{coding, reached, nrziRefusal, codeOf, codeBytes}
 use Rattle.nrzi.specs.Promises.{ThereAndBack, OutputBits, Numbers, LosesNothing}
 use Rattle.nrzi.specs.declared.Coded.the-variants.{Level, Refused}
 use Rattle.nrzi.proofs.Levels.{bits-again, levels-again, length-coding}
@@ -39,11 +39,11 @@ output-bits back l input bits out e =
     )
 
 pub numbers : Numbers
-unfolding codeOf nrziRefusal bitCountRefusal
+unfolding codeOf nrziRefusal
 numbers back l input bits room =
     unless-lists (reached back l (take bits (bitsOf input)))
     (then-among (2 ∷ []) (11 ∷ [])
-    (pick-among (ltb 8192 bits) (there (here refl)) (pick-among (ltb (8 * length input) bits) (there (here refl)) (here refl)))
+    (count-numbers [] (length input) bits)
     (pick-among (ltb room (bytesFor bits)) (there (here refl)) (here refl)))
 
 pub loses-nothing : LosesNothing

@@ -1,11 +1,14 @@
 -- The numbers of each call, from the theorems of the rooms.
 -- Assumes nothing.
 use Prim.Native.Nat.{ℕ}
-use mathlib.Core.List.{List, [], _∷_}
+use mathlib.Core.Path.{_≡_}
+use mathlib.Core.Logic.{_⊎_, inl, inr}
+use mathlib.Core.List.{List, [], _∷_, List·Memᴰ·head as here, List·Memᴰ·tail as there}
 use Rattle.frame.specs.Message.{messageRefusal, informationIn}
 use Rattle.frame.specs.Refusal.{informationRefusal}
 use Rattle.frame.specs.declared.Meaning.the-variants.{I}
 use Rattle.frame.proofs.Numbers.{numbers as frame}
+use Rattle.bits.proofs.Counting.{count-numbers}
 use Rattle.writer.proofs.Writing.{write-numbers}
 use Rattle.reader.proofs.Answers.{read-numbers}
 use Rattle.nrzi.proofs.Kept.{numbers as nrzi-numbers}
@@ -14,6 +17,7 @@ use Rattle.slave.proofs.Numbers.{numbers as slave}
 use Rattle.master.proofs.Numbers.{numbers as master}
 use Rattle.capture.proofs.Numbers.{numbers as record-numbers}
 use Rattle.listing.proofs.Numbers.{numbers as listing-numbers}
+use Rattle.layout.proofs.Every.{slave-two, master-two}
 use Rattle.bitbus.proofs.Numbers.{numbers as bitbus}
 use Rattle.paper.specs.Points.{ns, nr}
 use Rattle.paper.specs.Numbers.{OneOf, Calls, Ends, Parts, Numbers}
@@ -52,6 +56,10 @@ message : (m : List ℕ) → OneOf (10 ∷ 12 ∷ []) (messageRefusal m)
 unfolding informationRefusal
 message m = frame .information (I (ns 0) (nr 0)) m
 
+two : {n : ℕ} → (n ≡ 0) ⊎ (n ≡ 30) → OneOf (30 ∷ []) n
+two (inl e) = here e
+two (inr e) = there (here e)
+
 parts : Parts
 parts =
     record {
@@ -69,6 +77,9 @@ parts =
       room = room-numbers;
       slaveWrong = slave .wrong;
       masterWrong = master .wrong;
+      bitCount = count-numbers [];
+      slaveInBytes = λ b. two (slave-two b);
+      masterInBytes = λ b. two (master-two b);
       listing = listing-numbers;
     }
 

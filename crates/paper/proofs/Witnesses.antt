@@ -1,7 +1,7 @@
 -- Each number of each list is given, by computation.
 -- Assumes nothing.
 use mathlib.Core.Path.{refl}
-use Rattle.frame.specs.Control.{known, byteOf, countsRefusal, decodeOf}
+use Rattle.frame.specs.Control.{known, byteOf, countsRefusal, encodeOf, decodeOf}
 use Rattle.frame.specs.Message.{messageRefusal, informationIn, checkOf}
 use Rattle.frame.specs.Refusal.{addressRefusal, noneRefusal, informationRefusal, frameRefusal}
 use Rattle.bits.specs.Bits.{low, bitsOf, val, bytesOf}
@@ -21,6 +21,8 @@ use Rattle.master.specs.Master as masters
 use Rattle.master.specs.Order.{orderRefusal, orders, orderOf}
 use Rattle.master.specs.Response.{silenceRefusal, responseRefusal, responseOf, silenceOf}
 use Rattle.capture.specs.Record.{pairAt, kindRefusal, formRefusal, withInformation, frameIn, recordOf, recordAt}
+use Rattle.layout.specs.SlaveLayout as slave-layout
+use Rattle.layout.specs.MasterLayout as master-layout
 use Rattle.listing.specs.Listing.{linesFrom, linesOf, listing, outputRefusal, listOf}
 use Rattle.paper.specs.Witnesses as stated
 
@@ -94,6 +96,28 @@ owners-calls : stated.OwnersCalls
 unfolding slaves.restartOf slaves.clearOf slaves.slaveWrong masters.restartOf masters.clearOf masters.masterWrong masters.outerWrong addressWrong addressRefusal
 owners-calls = record { restart = (refl, refl); clear = (refl, refl) }
 
+parts : stated.Parts
+unfolding decodeOf known byteOf encodeOf countsRefusal addressRefusal messageRefusal informationRefusal noneRefusal frameRefusal checkOf informationIn bitCountRefusal addressWrong sideWrong slotWrong sides.putOf sides.putRefusal sides.takeOf sides.takeRefusal slaves.slaveWrong masters.masterWrong masters.outerWrong slave-layout.slaveWrong master-layout.masterWrong
+parts =
+    record {
+      decode = refl;
+      encode = refl;
+      counts = refl;
+      address = refl;
+      messageSize = (refl, refl);
+      information = (refl, refl);
+      frame = (refl, refl, refl);
+      checkIn = (refl, refl);
+      bitCount = refl;
+      addressWrong = refl;
+      sideWrong = refl;
+      sidePut = (refl, refl, refl, refl);
+      sideTake = (refl, refl, refl);
+      room = refl;
+      endWrong = (refl, refl);
+      inBytes = (refl, refl);
+    }
+
 pub witnesses : stated.Witnesses
 witnesses =
     record {
@@ -111,4 +135,5 @@ witnesses =
       silence = silence;
       slaveStep = slave-step;
       ownersCalls = owners-calls;
+      parts = parts;
     }

@@ -7,6 +7,7 @@ use Rattle.frame.specs.Control.{countsRefusal, encodeOf, decodeOf}
 use Rattle.frame.specs.Message.{messageRefusal, informationIn, checkOf}
 use Rattle.frame.specs.Refusal.{addressRefusal, informationRefusal, frameRefusal}
 use Rattle.frame.specs.declared.Meaning.{Meaning}
+use Rattle.bits.specs.Count.{bitCountRefusal}
 use Rattle.writer.specs.Write.{writeOf}
 use Rattle.reader.specs.Read.{readOf, told}
 use Rattle.nrzi.specs.Nrzi.{codeOf}
@@ -22,6 +23,8 @@ use Rattle.master.specs.Response.{responseOf, silenceOf}
 use Rattle.master.specs.declared.Master.{Master}
 use Rattle.capture.specs.Record.{recordAt}
 use Rattle.listing.specs.Listing.{listOf}
+use Rattle.layout.specs.SlaveLayout as slave-layout
+use Rattle.layout.specs.MasterLayout as master-layout
 use Rattle.bitbus.specs.Promises.{Numbers as CallNumbers}
 
 -- "Order of tests. Reading: 2, 1, 3, 4, 5, 6, 7, 8, 9, 10, 12, 11. Writing: 8, 9, 10, 12, 11. Making a link: 8, 15 (the slave end has no limit and never gives 15)."
@@ -115,6 +118,9 @@ pub record Parts : Type 0 where
   pub room : (n : ℕ) → OneOf (11 ∷ []) (sides.roomRefusal n)
   pub slaveWrong : (s : Slave) → OneOf ofEnd (slaves.slaveWrong s)
   pub masterWrong : (m : Master) → OneOf ofEnd (masters.masterWrong m)
+  pub bitCount : (size bits : ℕ) → OneOf (2 ∷ []) (bitCountRefusal size bits)
+  pub slaveInBytes : (b : List ℕ) → OneOf ofEnd (slave-layout.slaveWrong b)
+  pub masterInBytes : (b : List ℕ) → OneOf ofEnd (master-layout.masterWrong b)
   pub listing : (capture : List ℕ) (room : ℕ) → Lists (11 ∷ []) (listOf capture room)
 
 -- with the calls from C on an end in bytes, whose numbers stand in specs/Promises of `bitbus`

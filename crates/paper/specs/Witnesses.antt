@@ -5,13 +5,19 @@ use mathlib.Core.Bool.{Bool, true}
 use mathlib.Core.List.{List, [], _∷_, _++_}
 use lib.ListN.{length, replicate}
 use Rattle.frame.specs.Answer.{Answer, refuses}
-use Rattle.frame.specs.Message.{checkOf}
+use Rattle.frame.specs.Control.{countsRefusal, encodeOf, decodeOf}
+use Rattle.frame.specs.Message.{messageRefusal, informationIn, checkOf}
+use Rattle.frame.specs.Refusal.{addressRefusal, informationRefusal, frameRefusal}
 use Rattle.frame.specs.declared.Meaning.{Meaning}
 use Rattle.frame.specs.declared.Meaning.the-variants.{I, Rr, Snrm}
 use Rattle.bits.specs.Flag.{flag}
+use Rattle.bits.specs.Count.{bitCountRefusal}
 use Rattle.writer.specs.Write.{contentBytes, line, laid, writeOf}
 use Rattle.reader.specs.Read.{readOf, told}
 use Rattle.nrzi.specs.Nrzi.{codeOf}
+use Rattle.side.specs.Right.{sideWrong, addressWrong}
+use Rattle.side.specs.Side.{fresh, withCounts}
+use Rattle.side.specs.Slot as sides
 use Rattle.side.specs.Rule.{filledWith}
 use Rattle.slave.specs.Slave as slaves
 use Rattle.slave.specs.Step.{stepOf}
@@ -22,6 +28,8 @@ use Rattle.master.specs.Response.{responseOf, silenceOf}
 use Rattle.master.specs.declared.Master.{Master}
 use Rattle.capture.specs.Record.{recordAt}
 use Rattle.listing.specs.Listing.{listOf}
+use Rattle.layout.specs.SlaveLayout as slave-layout
+use Rattle.layout.specs.MasterLayout as master-layout
 use Rattle.paper.specs.Points.{digits, ns, nr}
 
 -- what is read of bits that stand alone in a packed buffer, for a lent output of that room
@@ -151,6 +159,27 @@ pub record OwnersCalls : Type 0 where
   pub restart : (slaves.restartOf slaves.blank .answer ≡ refuses 30) × (masters.restartOf masters.blank .answer ≡ refuses 30)
   pub clear : (slaves.clearOf slaves.blank .answer ≡ refuses 30) × (masters.clearOf masters.blank .answer ≡ refuses 30)
 
+-- the public functions of the rooms that 01 has no call for
+pub record Parts : Type 0 where
+  pub decode : decodeOf 0 ≡ refuses 9
+  pub encode : encodeOf (Rr (nr 8)) ≡ refuses 9
+  pub counts : countsRefusal (Rr (nr 8)) ≡ 9
+  pub address : addressRefusal 0 ≡ 8
+  pub messageSize : (messageRefusal [] ≡ 10) × (messageRefusal zeros ≡ 12)
+  pub information : (informationRefusal informs [] ≡ 10) × (informationRefusal informs zeros ≡ 12)
+  pub frame : (frameRefusal (Rr (nr 8)) [] ≡ 9) × (frameRefusal informs [] ≡ 10) × (frameRefusal informs zeros ≡ 12)
+  pub checkIn : (checkOf (informationIn []) ≡ refuses 10) × (checkOf (informationIn (replicate 9 0)) ≡ refuses 12)
+  pub bitCount : bitCountRefusal 0 1 ≡ 2
+  pub addressWrong : addressWrong 0 ≡ 30
+  pub sideWrong : sideWrong (withCounts 8 0 fresh) ≡ 30
+  pub sidePut : (sides.putOf (withCounts 8 0 fresh) [] .answer ≡ refuses 30) × (sides.putOf fresh [] .answer ≡ refuses 10)
+      × (sides.putOf fresh zeros .answer ≡ refuses 12) × (sides.putOf (sides.putOf fresh message .end) message .answer ≡ refuses 13)
+  pub sideTake : (sides.takeOf (withCounts 8 0 fresh) 0 .answer ≡ refuses 30) × (sides.takeOf fresh 0 .answer ≡ refuses 14)
+      × (sides.takeOf (filledWith message fresh) 4 .answer ≡ refuses 11)
+  pub room : sides.roomRefusal 252 ≡ 11
+  pub endWrong : (slaves.slaveWrong slaves.blank ≡ 30) × (masters.masterWrong masters.blank ≡ 30)
+  pub inBytes : (slave-layout.slaveWrong (2 ∷ []) ≡ 30) × (master-layout.masterWrong (3 ∷ []) ≡ 30)
+
 pub record Witnesses : Type 0 where
   pub reading : Reading
   pub writing : Writing
@@ -166,3 +195,4 @@ pub record Witnesses : Type 0 where
   pub silence : Silence
   pub slaveStep : SlaveStep
   pub ownersCalls : OwnersCalls
+  pub parts : Parts

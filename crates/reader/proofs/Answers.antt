@@ -1,7 +1,7 @@
--- The reader's answers: their numbers, that the definition of their values loses nothing, and that any two allowed outcomes are equal.
+-- The reader's answers: their numbers, and that the definition of their values loses nothing.
 -- Assumes nothing.
 use Prim.Native.Nat.{ℕ, _+_, _-_, _*_, _/_, _%_}
-use mathlib.Core.Path.{_≡_, _∙_, refl, sym, ap}
+use mathlib.Core.Path.{_≡_, refl, ap}
 use mathlib.Core.List.{List, [], _∷_, List·Memᴰ·head as here, List·Memᴰ·tail as there, List·Memᴰ·not-nil}
 use native.Mathlib.Omega.{arith}
 use lib.Dec.{eqb, ltb}
@@ -20,8 +20,9 @@ use Rattle.bits.specs.Bits.{bitsOf}
 use Rattle.bits.specs.Check.{checkWord}
 use Rattle.bits.specs.Insert.{remove, ending}
 use Rattle.bits.specs.Count.{bitCountRefusal}
+use Rattle.bits.proofs.Counting.{count-numbers}
 use Rattle.reader.specs.Flags.{Heard, nothing, content, heard}
-use Rattle.reader.specs.Read.{_before_, meant, fitting, told, readingGives, removalRefusal, checkRefusal, bytesIn, frameAnswer, contentAnswer, judged, readOf}
+use Rattle.reader.specs.Read.{_before_, meant, fitting, told, removalRefusal, checkRefusal, bytesIn, frameAnswer, contentAnswer, judged, readOf}
 use Rattle.reader.specs.Promises.{ReadNumbers, ReadLosesNothing}
 use Rattle.reader.specs.declared.Reading.the-variants.{Frame, Refused}
 
@@ -126,13 +127,13 @@ told-lists (gives f) h = tt
 told-lists (refuses n) h = h
 
 pub read-numbers : ReadNumbers
-unfolding readOf bitCountRefusal
+unfolding readOf
 read-numbers buffer bits room =
     told-lists (readOf buffer bits room)
-    (before-lists (bitCountRefusal (length buffer) bits) _ (pick-among (ltb 8192 bits) n2 (pick-among (ltb (8 * length buffer) bits) n2 n0))
+    (before-lists (bitCountRefusal (length buffer) bits) _ (count-numbers _ (length buffer) bits)
     (fitting-lists room (judged (heard (take bits (bitsOf buffer)))) (judged-lists (heard (take bits (bitsOf buffer))))))
 
--- ---- outcomes
+-- ---- values
 
 pub read-loses-nothing : ReadLosesNothing
 read-loses-nothing (Frame a m n) (Frame b k l) e =

@@ -1,4 +1,4 @@
--- The writer's answers: how large a frame can be, their numbers, and that any two allowed outcomes are equal.
+-- The writer's answers: how large a frame can be, their numbers, and that the definition of their values loses nothing.
 -- Assumes nothing.
 use Prim.Native.Nat.{ℕ, _≤_}
 use mathlib.Core.Path.{_≡_, refl, ap, ap₂, subst}

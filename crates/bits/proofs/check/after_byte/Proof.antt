@@ -1,8 +1,7 @@
 -- `bits::check::after_byte` meets its contract: eight steps of the register in one.
 -- Assumes nothing.
-use Prim.Native.Nat.{_/_, _%_, _<_}
+use Prim.Native.Nat.{_/_}
 use mathlib.Core.Path.{_∙_, ap, sym}
-use native.Mathlib.Omega.{arith}
 use lib.Bits.{bitXor}
 use Rattle.bits.proofs.Checking.{register-byte}
 use borrow.Author.Needs.{needs}

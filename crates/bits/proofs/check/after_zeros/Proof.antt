@@ -1,7 +1,7 @@
 -- `bits::check::after_zeros` meets its contract: the shifts agree with eight steps of the register at each of the 256 bytes, by one computed comparison.
 -- Assumes nothing.
 use Prim.Native.Nat.{ℕ, _*_, _/_, _%_, _<_}
-use mathlib.Core.Path.{refl, sym}
+use mathlib.Core.Path.{refl}
 use native.Mathlib.Omega.{arith}
 use lib.Bits.{bitXor, xor-lt}
 use Rattle.frame.proofs.Computed.{agree}

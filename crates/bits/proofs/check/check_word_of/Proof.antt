@@ -1,7 +1,7 @@
 -- `bits::check::check_word_of` meets its contract.
 -- Assumes nothing.
 use Prim.Native.Nat.{ℕ, _-_}
-use mathlib.Core.Path.{_∙_, ap, refl, sym}
+use mathlib.Core.Path.{_∙_, ap, sym}
 use Rattle.bits.specs.Bits.{bitsOf}
 use Rattle.bits.specs.Check.{register, checkWord}
 use Rattle.bits.proofs.BitLaws.{bitsOf-append}
