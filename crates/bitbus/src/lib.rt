@@ -1,4 +1,6 @@
 // The C surface: exported functions over numbers and lent bytes, for the firmware of a master or a slave. include/bitbus.h says what each does.
+#![tactic(auto)]
+
 pub mod captures;
 pub mod master_calls;
 pub mod slave_calls;

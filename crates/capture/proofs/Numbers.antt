@@ -47,10 +47,12 @@ information_numbers address m info = unless_lists _ (wider (frame-numbers.inform
     wider (here e) = here e
     wider (there (here e)) = there (there (there (there (here e))))
     wider (there (there (here e))) = there (there (there (there (there (here e)))))
+    wider {n = n} (there (there (there x12))) = elim x12 [ ]
 
 control_numbers : (address : ℕ) (x : Answer Meaning) (info : List ℕ) → Lists (9 ∷ []) x → Lists record_numbers (with_control address x info)
 control_numbers address (gives m) info l = information_numbers address m info
 control_numbers address (refuses n) info (here e) = there (there (here e))
+control_numbers address (refuses n) info (there x5) = elim x5 [ ]
 
 frame_lists : (body : List ℕ) → Lists record_numbers (frame_in body)
 unfolding frame_in
@@ -62,6 +64,7 @@ frame_lists body =
     other : {n : ℕ} → (n ≡ 0 → ⊥) → Among n (0 ∷ 8 ∷ []) → Among n record_numbers
     other z (here e) = absurd (z e)
     other z (there (here e)) = there (here e)
+    other {n = n} z (there (there x8)) = elim x8 [ ]
 
 framed_numbers : (kind next : ℕ) (x : Answer Frame) → Lists record_numbers x → Lists record_numbers (framed kind next x)
 framed_numbers kind next (gives f) l = tt

@@ -1,2 +1,4 @@
 // Captures: the record at a place.
+#![tactic(auto)]
+
 pub mod records;

@@ -23,7 +23,7 @@ pub const LEAST_BODY: usize = 2;
 pub const MOST_BODY: usize = 255;
 
 // What an order or a response carries; size is that of its information.
-#[derive(Drop)]
+#[derive(Clone, Copy)]
 pub struct Frame {
     pub address: u8,
     pub meaning: Meaning,
@@ -31,7 +31,7 @@ pub struct Frame {
 }
 
 // What stands at a place of a capture; the number beside a record is the place where the next begins.
-#[derive(Drop)]
+#[derive(Clone, Copy)]
 pub enum Found {
     Order(Frame, usize),
     Response(Frame, usize),
@@ -40,7 +40,7 @@ pub enum Found {
     Refused(u8),
 }
 
-#[derive(Drop)]
+#[derive(Clone, Copy)]
 enum Judged {
     Right(Frame),
     Refused(u8),

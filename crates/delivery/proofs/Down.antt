@@ -87,6 +87,10 @@ module _ (r : Rules) (c : List Message) (m : Message) where
         inl (g.gave (room-full r w.slave.end y) ∙ rw (z.log, q) refl)
     room-answers (RR k) l e h x g y = inr (status-answers (RR k) e h x g.gave y, λ b. b)
     room-answers (RNR k) l e h x g y = inr (status-answers (RNR k) e h x g.gave y, λ b. b)
+    room-answers Rattle.delivery.specs.Link.SNRM l e h x g y = elim l [ ]
+    room-answers Rattle.delivery.specs.Link.DISC l e h x g y = elim l [ ]
+    room-answers Rattle.delivery.specs.Link.UA l e h x g y = elim l [ ]
+    room-answers Rattle.delivery.specs.Link.FRMR l e h x g y = elim l [ ]
 
     -- The master takes a response: m is confirmed, as it must be where it was over, or held still.
     over-hears : (f : Frame) (e : End) (h x : List Message) → MasterTook r w f e h x → Over w → Done (concluding w f e h x)

@@ -87,6 +87,12 @@ module _ (r : Rules) (c : List Message) (m : Message) where
     -- The master takes a response: what is over stays so, and what it brings into its room is handed over.
     brought_hears : (f : Frame) (e : End) (h x : List Message) → MasterTook r w f e h x → MasterRoom r w → Brings m f → Over (concluding w f e h x)
     brought_hears (I n k m') e h x g y p = g.gave (room-full r w.master.end y) ∙ rw (z.log, p) refl
+    brought_hears (Rattle.delivery.specs.Link.RR _) e h x g y p = elim p [ ]
+    brought_hears (Rattle.delivery.specs.Link.RNR _) e h x g y p = elim p [ ]
+    brought_hears Rattle.delivery.specs.Link.SNRM e h x g y p = elim p [ ]
+    brought_hears Rattle.delivery.specs.Link.DISC e h x g y p = elim p [ ]
+    brought_hears Rattle.delivery.specs.Link.UA e h x g y p = elim p [ ]
+    brought_hears Rattle.delivery.specs.Link.FRMR e h x g y p = elim p [ ]
 
     open_hears : (f : Frame) (e : End) (h x : List Message) → MasterTook r w f e h x → Open w (answers f) → Over (concluding w f e h x)
     open_hears f e h x g (inl o) = still_over w.up.handed h c m z.held o (rw z.log at g.inward.due)

@@ -68,6 +68,10 @@ pub kept_carries : {e e' : End} → Kept e e' → (f : Frame) → Carries e f �
 kept_carries k (I n j m) (p, q, s) = (p ∙ sym k.ns, q ∙ sym k.nr, k.held m s)
 kept_carries k (RR j) p = p ∙ sym k.nr
 kept_carries k (RNR j) p = p ∙ sym k.nr
+kept_carries {e = e} k SNRM p = elim p [ ]
+kept_carries {e = e} k DISC p = elim p [ ]
+kept_carries {e = e} k UA p = elim p [ ]
+kept_carries {e = e} k FRMR p = elim p [ ]
 
 status_carries : (e : End) (b : Bool) → Carries e (status b e.nr)
 status_carries e true = refl
@@ -195,3 +199,7 @@ module _ (r : Rules) (a b : End) (h c h' c' : List Message) (i : Way a b h c) (o
   heard_good (RNR k) l =
       let (e, cf, p, g) = heard-nr r a b h' c' k o l in
       rw p (took cf (RNR k) g refl refl g.incoming (nothing_handed g.nr))
+  heard_good SNRM l = elim l [ ]
+  heard_good DISC l = elim l [ ]
+  heard_good UA l = elim l [ ]
+  heard_good FRMR l = elim l [ ]

@@ -6,13 +6,13 @@ ghost use Rattle.frame.specs.Pick.{◌then◌};
 
 use crate::{Meaning, ReceiveCount, SendCount, number};
 
-#[derive(Drop)]
+#[derive(Clone, Copy)]
 pub enum Decoded {
     Known(Meaning),
     Refused(u8),
 }
 
-#[derive(Drop)]
+#[derive(Clone, Copy)]
 pub enum Encoded {
     Byte(u8),
     Refused(u8),

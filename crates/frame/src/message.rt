@@ -31,7 +31,7 @@ pub const DE: u8 = 0x20;
 
 pub const TR: u8 = 0x10;
 
-#[derive(Drop)]
+#[derive(Clone, Copy)]
 pub enum Checked {
     Passed,
     Refused(u8),

@@ -71,7 +71,7 @@ fn slot_at(bytes: &[u8], at: usize) -> [u8; 253]
 {
     let mut slot = [0u8; 253];
     let end = at + 253;
-    bytes::copy(&bytes[at..end], &mut slot);
+    slot[..end - at].copy_from_slice(&bytes[at..end]);
     slot
 }
 
@@ -186,5 +186,5 @@ pub(crate) fn lay(part: &[u8], at: usize, bytes: &mut [u8])
     requires { at + length part.now ≤ length bytes.old }
     ensures { bytes.new ≡ laid_at at part.now bytes.old }
 {
-    bytes::copy(part, &mut bytes[at..]);
+    bytes[at..at + part.len()].copy_from_slice(part);
 }

@@ -1,4 +1,6 @@
 // The program "list": reads a capture on standard input and writes its listing on standard output.
+#![tactic(auto)]
+
 ghost use Rattle.std.specs.Prelude.{◌≤◌, length};
 ghost use Rattle.list.specs.Sizes.{Inside, Holds};
 
@@ -8,7 +10,7 @@ use listing::Listed;
 // One byte more than the longest capture that is listed, so that a longer one is seen to be too long.
 const ROOM: usize = 65537;
 
-#[derive(Drop)]
+#[derive(Clone, Copy)]
 enum Input {
     Bytes(usize),
     Failed,

@@ -1,4 +1,6 @@
 // The listing of a capture: the header, a line per record, and at a refused record its line and no more.
+#![tactic(auto)]
+
 mod line;
 mod text;
 
@@ -19,7 +21,7 @@ pub const MOST_CAPTURE: usize = 65536;
 // The least size of a lent output that suffices for every capture (specs/Promises: Suffices, Least).
 pub const MOST_TEXT: usize = 283838;
 
-#[derive(Drop)]
+#[derive(Clone, Copy)]
 pub enum Listed {
     Text(usize),
     Refused(u8),

@@ -1,4 +1,6 @@
 // The master's end of a link: making, put, take, restart, clearing the mark, the order, and the response or silence that follows it.
+#![tactic(auto)]
+
 ghost use Rattle.std.specs.Prelude.{◌≡◌, length};
 ghost use Rattle.master.specs.Master.{begun, clear_of, done_given, limit_refusal, limit_wrong, make_of, make_refusal, master_wrong, on_side, outer_wrong, put_of, restart_of, take_bytes, take_given, take_of};
 
@@ -10,7 +12,7 @@ pub mod order;
 pub mod response;
 pub mod silence;
 
-#[derive(Drop)]
+#[derive(Clone, Copy)]
 pub enum Mode {
     Disconnecting,
     Connecting,
@@ -18,7 +20,7 @@ pub enum Mode {
 }
 
 // `tick` is that of the last order; it means something while an order waits.
-#[derive(Drop)]
+#[derive(Clone, Copy)]
 pub struct Master {
     pub side: Side,
     pub mode: Mode,
@@ -29,13 +31,13 @@ pub struct Master {
     pub address: u8,
 }
 
-#[derive(Drop)]
+#[derive(Clone, Copy)]
 pub struct MasterDone {
     pub answer: Outcome,
     pub master: Master,
 }
 
-#[derive(Drop)]
+#[derive(Clone, Copy)]
 pub struct MasterTake {
     pub answer: TakeAnswer,
     pub master: Master,

@@ -7,20 +7,20 @@ use frame::{Meaning, number};
 use side::answer::Line;
 use side::{Side, slot};
 
-#[derive(Drop)]
+#[derive(Clone, Copy)]
 pub enum OrderAnswer {
     Orders(Line),
     Refused(u8),
 }
 
-#[derive(Drop)]
+#[derive(Clone, Copy)]
 pub struct MasterOrder {
     pub answer: OrderAnswer,
     pub master: Master,
 }
 
 // What an order that is not refused sends, and the master that waits for its response.
-#[derive(Drop)]
+#[derive(Clone, Copy)]
 pub struct Ordered {
     pub line: Line,
     pub master: Master,

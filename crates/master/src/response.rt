@@ -8,21 +8,21 @@ use side::answer::{Change, News};
 use side::rule::Heard;
 use side::{Side, rule};
 
-#[derive(Drop)]
+#[derive(Clone, Copy)]
 pub enum ResponseAnswer {
     Heard(News),
     Silence,
     Refused(u8),
 }
 
-#[derive(Drop)]
+#[derive(Clone, Copy)]
 pub struct MasterResponse {
     pub answer: ResponseAnswer,
     pub master: Master,
 }
 
 // What a response brings that is neither refused nor counted as silence.
-#[derive(Drop)]
+#[derive(Clone, Copy)]
 pub struct Brought {
     pub news: News,
     pub master: Master,

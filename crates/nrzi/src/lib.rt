@@ -1,4 +1,6 @@
 // NRZI both ways, a byte at a time, from a given level and with the level at the end, so that a stream can be coded in pieces.
+#![tactic(auto)]
+
 ghost use Rattle.std.specs.Prelude.{◌≡◌, ◌+◌, ◌*◌, ◌/◌, ◌%◌, ◌^◌, ◌≤◌, ◌<◌, true, false, ◌++◌, length, get_or, set, take, drop};
 ghost use Rattle.bits.specs.Bits.{bits_of, bytes_of, low, odd, val};
 ghost use Rattle.bits.specs.Packed.{bytes_for, over};
@@ -8,7 +10,7 @@ use bits::count;
 use frame::number;
 
 // The level at the end, or the refusal.
-#[derive(Drop)]
+#[derive(Clone, Copy)]
 pub enum Coded {
     Level(bool),
     Refused(u8),
@@ -103,7 +105,7 @@ fn code_last(back: bool, level: bool, x: u8, rest: usize, out: &mut [u8], at: us
 }
 
 // A byte coded from a level, and the level after its first n bits.
-#[derive(Drop)]
+#[derive(Clone, Copy)]
 struct Piece {
     byte: u8,
     level: bool,

@@ -7,7 +7,7 @@ ghost use Rattle.reader.specs.Flags.{part};
 use crate::bit;
 
 // How many bits were kept, and the run of ones at the end.
-#[derive(Drop)]
+#[derive(Clone, Copy)]
 pub(crate) struct Kept {
     pub bits: usize,
     pub run: u8,

@@ -1,4 +1,6 @@
 // The frame reader: the first content that counts, without its inserted zeros, judged as a frame.
+#![tactic(auto)]
+
 ghost use Rattle.std.specs.Prelude.{◌≡◌, ◌*◌, ◌+◌, ◌≤◌, length};
 ghost use Rattle.frame.specs.Answer.{gives};
 ghost use Rattle.bits.specs.Bits.{bits_of};
@@ -24,7 +26,7 @@ pub const LEAST_CONTENT: usize = 4;
 pub const MOST_CONTENT: usize = 257;
 
 // Address, meaning and the information's size, or the number.
-#[derive(Drop)]
+#[derive(Clone, Copy)]
 pub enum Reading {
     Frame(u8, Meaning, usize),
     Refused(u8),

@@ -11,7 +11,7 @@ use bits::FLAG;
 const SEVEN_ONES: u8 = 0xFE;
 
 // The places of a content's first bit and of the bit after its last.
-#[derive(Drop)]
+#[derive(Clone, Copy)]
 pub(crate) enum Located {
     Nowhere,
     Between(usize, usize),

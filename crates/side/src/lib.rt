@@ -1,4 +1,6 @@
 // What both ends of a link hold, and what both do with it: number 30's part, put, take, the count rule, synchronising, giving out.
+#![tactic(auto)]
+
 ghost use Rattle.std.specs.Prelude.{◌≡◌};
 ghost use Rattle.side.specs.Side.{cleared, dropped, fresh, restarted, synchronised};
 
@@ -11,7 +13,7 @@ pub mod say;
 pub mod slot;
 
 // The held message is the first `holds` bytes of `held`, the waiting one the first `waits` bytes of `incoming`; a size of 0 means that there is none.
-#[derive(Drop)]
+#[derive(Clone, Copy)]
 pub struct Side {
     pub ns: SendCount,
     pub nr: ReceiveCount,

@@ -6,7 +6,7 @@ use crate::{Side, slot};
 use frame::{Meaning, ReceiveCount, SendCount};
 
 // What the Nr of a frame says of the held message.
-#[derive(Drop)]
+#[derive(Clone, Copy)]
 pub enum Ack {
     ConfirmsNothing,
     Confirms,
@@ -14,7 +14,7 @@ pub enum Ack {
 }
 
 // What the Ns of an I frame says of its message.
-#[derive(Drop)]
+#[derive(Clone, Copy)]
 pub enum Seen {
     New,
     Duplicate,
@@ -22,13 +22,13 @@ pub enum Seen {
 }
 
 // Irrecoverable, or the size of the message confirmed and that of the message handed over (0: none).
-#[derive(Drop)]
+#[derive(Clone, Copy)]
 pub enum Heard {
     Irrecoverable,
     Accepted(usize, usize),
 }
 
-#[derive(Drop)]
+#[derive(Clone, Copy)]
 pub struct Hearing {
     pub heard: Heard,
     pub side: Side,

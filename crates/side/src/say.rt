@@ -6,7 +6,7 @@ use crate::Side;
 use frame::Meaning;
 
 // The meaning of the frame, the size of its information (0 but for I), and the side after it is given out.
-#[derive(Drop)]
+#[derive(Clone, Copy)]
 pub struct Saying {
     pub meaning: Meaning,
     pub size: usize,

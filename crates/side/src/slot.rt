@@ -6,13 +6,13 @@ use crate::Side;
 use crate::answer::{Outcome, TakeAnswer};
 use frame::{message, number};
 
-#[derive(Drop)]
+#[derive(Clone, Copy)]
 pub struct SidePut {
     pub answer: Outcome,
     pub side: Side,
 }
 
-#[derive(Drop)]
+#[derive(Clone, Copy)]
 pub struct SideTake {
     pub answer: TakeAnswer,
     pub side: Side,
@@ -148,7 +148,7 @@ pub(crate) fn filled(slot: [u8; 253], message: &[u8]) -> [u8; 253]
     ensures { result ≡ message.now ++ drop (length message.now) slot }
 {
     let mut bytes = slot;
-    bytes::copy(message, &mut bytes);
+    bytes[..message.len()].copy_from_slice(message);
     bytes
 }
 
@@ -162,7 +162,7 @@ pub fn lay(slot: [u8; 253], size: usize, out: &mut [u8])
     if out.len() < size {
         return;
     }
-    bytes::copy(&slot[..size], out);
+    out[..size].copy_from_slice(&slot[..size]);
 }
 
 // 11 of the buffer lent to an order or a slave step, else 0.

@@ -1,4 +1,6 @@
 // The slave's end of a link: making, put, take, restart, clearing the mark, and the step that answers an order.
+#![tactic(auto)]
+
 ghost use Rattle.std.specs.Prelude.{◌≡◌, length};
 ghost use Rattle.slave.specs.Slave.{begun, clear_of, done_given, make_of, on_side, put_of, restart_of, slave_wrong, take_bytes, take_given, take_of};
 
@@ -8,26 +10,26 @@ use side::{Side, right};
 
 pub mod step;
 
-#[derive(Drop)]
+#[derive(Clone, Copy)]
 pub enum Mode {
     Ndm,
     Nrm,
 }
 
-#[derive(Drop)]
+#[derive(Clone, Copy)]
 pub struct Slave {
     pub side: Side,
     pub mode: Mode,
     pub address: u8,
 }
 
-#[derive(Drop)]
+#[derive(Clone, Copy)]
 pub struct SlaveDone {
     pub answer: Outcome,
     pub slave: Slave,
 }
 
-#[derive(Drop)]
+#[derive(Clone, Copy)]
 pub struct SlaveTake {
     pub answer: TakeAnswer,
     pub slave: Slave,

@@ -8,20 +8,20 @@ use side::answer::{Change, Line, News};
 use side::rule::Heard;
 use side::{Side, rule, slot};
 
-#[derive(Drop)]
+#[derive(Clone, Copy)]
 pub enum StepAnswer {
     Responds(Line, News),
     Refused(u8),
 }
 
-#[derive(Drop)]
+#[derive(Clone, Copy)]
 pub struct SlaveStep {
     pub answer: StepAnswer,
     pub slave: Slave,
 }
 
 // What an order that is not refused does.
-#[derive(Drop)]
+#[derive(Clone, Copy)]
 pub struct Moved {
     pub line: Line,
     pub news: News,

@@ -7,14 +7,14 @@ use side::answer::{Change, Line, News, Outcome, TakeAnswer};
 use slave::Slave;
 use slave::step::StepAnswer;
 
-#[derive(Drop)]
+#[derive(Clone, Copy)]
 pub struct Pair {
     pub master: Master,
     pub slave: Slave,
 }
 
 // What becomes of an order and of its response.
-#[derive(Drop)]
+#[derive(Clone, Copy)]
 pub enum Fate {
     Whole,
     OrderLost,
@@ -82,7 +82,7 @@ fn arrives(pair: Pair, tick: u32, fate: Fate, line: Line, down: &[u8]) -> Pair {
 }
 
 // What the slave's step answered, and the pair after it.
-#[derive(Drop)]
+#[derive(Clone, Copy)]
 struct AfterStep {
     answer: StepAnswer,
     pair: Pair,

@@ -1,4 +1,6 @@
 // Runs the worked examples of document 01 and published vectors, and prints what it finds.
+#![tactic(auto)]
+
 mod exchange;
 mod print;
 mod wire;

@@ -1,4 +1,6 @@
 // The frame writer: flag, content with its inserted zeros, flag, into a lent buffer.
+#![tactic(auto)]
+
 ghost use Rattle.std.specs.Prelude.{◌≡◌, ◌++◌, ◌+◌, ◌≤◌, ◌<◌, length};
 ghost use Rattle.frame.specs.Pick.{◌then◌};
 ghost use Rattle.frame.specs.Refusal.{information_refusal};
@@ -17,21 +19,21 @@ mod packed;
 mod stuff;
 
 // What the writer reports: the total of line bits, both flags included, and how many zeros it inserted.
-#[derive(Drop)]
+#[derive(Clone, Copy)]
 pub enum Written {
     Line { bits: usize, zeros: usize },
     Refused(u8),
 }
 
 // Line bits counted so far, and the run of ones at their end.
-#[derive(Drop)]
+#[derive(Clone, Copy)]
 pub(crate) struct Counted {
     pub bits: usize,
     pub run: u32,
 }
 
 // Line bits laid so far, and the run of ones at their end.
-#[derive(Drop)]
+#[derive(Clone, Copy)]
 pub(crate) struct Laid {
     pub sink: Sink,
     pub run: u32,

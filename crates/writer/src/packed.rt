@@ -4,7 +4,7 @@ ghost use Rattle.bits.specs.Bits.{low};
 ghost use Rattle.writer.specs.Sink.{Added, Room, Sound};
 
 // Where the next whole byte goes, and the bits that still wait for one, the earliest lowest.
-#[derive(Drop)]
+#[derive(Clone, Copy)]
 pub(crate) struct Sink {
     pub at: usize,
     pub acc: u32,

@@ -4,7 +4,7 @@ ghost use Rattle.bits.specs.Bits.{low};
 ghost use Rattle.writer.specs.Stuff.{Inserted, Stepped};
 
 // The bits that go out for a byte, the first lowest; how many they are, 8 to 10; the run of ones after them.
-#[derive(Drop)]
+#[derive(Clone, Copy)]
 pub(crate) struct Stuffed {
     pub bits: u32,
     pub count: u32,
@@ -12,7 +12,7 @@ pub(crate) struct Stuffed {
 }
 
 // The same on the way, with the weight of the next bit.
-#[derive(Drop)]
+#[derive(Clone, Copy)]
 pub(crate) struct Step {
     pub bits: u32,
     pub place: u32,

@@ -1,0 +1,20 @@
+-- `bits::check::after_zeros` meets its contract: the shifts agree with eight steps of the register at each of the 256 bytes, by one computed comparison.
+use Prim.Native.Nat.{ℕ, ◌*◌, ◌/◌, ◌%◌, ◌<◌}
+use mathlib.Core.Path.{refl}
+use native.Mathlib.Omega.{arith}
+use lib.Bits.{bit_xor, xor_lt}
+use Rattle.frame.proofs.Computed.{agree}
+use Rattle.bits.specs.Bits.{low}
+use Rattle.bits.specs.Check.{shifted, register, after_zeros}
+use borrow.Author.Rules.{rules}
+use Rattle.bits.proofs.check.after_zeros.Goals as goal
+
+abbrev folded : ℕ → ℕ
+folded k = bit_xor k (k % 16 * 16)
+
+abbrev shifts : ℕ → ℕ
+shifts k = bit_xor (bit_xor (folded k * 256) (folded k * 8)) (folded k / 16)
+
+pub returns : goal.returns
+unfolding after_zeros register shifted low
+returns c = agree shifts after_zeros 256 refl c.args.differs c.ranges.differs.fits
