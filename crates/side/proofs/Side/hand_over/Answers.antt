@@ -2,7 +2,6 @@
 use mathlib.Core.Path.{sym, ◌∙◌}
 use Rattle.side.specs.Rule.{hand_over}
 use Rattle.side.proofs.Parts.{room_small}
-use borrow.Author.Rules.{rules}
 use Rattle.side.proofs.Side.hand_over.Goals as goal
 
 pub filled_with-side-requires : goal.filled_with-side-requires

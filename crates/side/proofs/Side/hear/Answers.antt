@@ -1,6 +1,5 @@
 -- `side::Side::hear` meets its contract.
 use Rattle.side.specs.Rule.{count_rule}
-use borrow.Author.Rules.{rules}
 use Rattle.side.proofs.Side.hear.Goals as goal
 
 pub returns-in-I : goal.returns-in-I

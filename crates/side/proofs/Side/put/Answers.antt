@@ -3,7 +3,6 @@ use mathlib.Core.Path.{sym, ◌∙◌}
 use Rattle.frame.proofs.Tests.{tests}
 use Rattle.side.specs.Slot.{put_of}
 use Rattle.side.proofs.Parts.{put_fits}
-use borrow.Author.Rules.{rules}
 use Rattle.side.proofs.Side.put.Goals as goal
 
 pub returns-then-refusal-ne0 : goal.returns-then-refusal-ne0

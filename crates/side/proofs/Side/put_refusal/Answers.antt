@@ -1,7 +1,6 @@
 -- `side::Side::put_refusal` meets its contract.
 use Rattle.frame.proofs.Tests.{tests}
 use Rattle.side.specs.Slot.{put_refusal}
-use borrow.Author.Rules.{rules}
 use Rattle.side.proofs.Side.put_refusal.Goals as goal
 
 pub returns-then-wrong-ne0 : goal.returns-then-wrong-ne0

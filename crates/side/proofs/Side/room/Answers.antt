@@ -1,7 +1,6 @@
 -- `side::Side::room` meets its contract.
 use Rattle.frame.proofs.Tests.{tests}
 use Rattle.side.specs.Slot.{room}
-use borrow.Author.Rules.{rules}
 use Rattle.side.proofs.Side.room.Goals as goal
 
 pub returns-then-full : goal.returns-then-full

@@ -1,6 +1,5 @@
 -- `side::Side::say` meets its contract.
 use Rattle.side.specs.Say.{says}
-use borrow.Author.Rules.{rules}
 use Rattle.side.proofs.Side.say.Goals as goal
 
 pub returns-then-may : goal.returns-then-may

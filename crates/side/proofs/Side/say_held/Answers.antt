@@ -1,7 +1,6 @@
 -- `side::Side::say_held` meets its contract.
 use Rattle.frame.proofs.Tests.{tests}
 use Rattle.side.specs.Say.{says_held}
-use borrow.Author.Rules.{rules}
 use Rattle.side.proofs.Side.say_held.Goals as goal
 
 pub returns-then-holds-eq0 : goal.returns-then-holds-eq0

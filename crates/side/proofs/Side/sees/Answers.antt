@@ -1,7 +1,6 @@
 -- `side::Side::sees` meets its contract.
 use Rattle.frame.proofs.Tests.{tests}
 use Rattle.side.specs.Rule.{seen}
-use borrow.Author.Rules.{rules}
 use Rattle.side.proofs.Side.sees.Goals as goal
 
 pub returns-then-told-own : goal.returns-then-told-own

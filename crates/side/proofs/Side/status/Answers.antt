@@ -1,6 +1,5 @@
 -- `side::Side::status` meets its contract.
 use Rattle.side.specs.Say.{status}
-use borrow.Author.Rules.{rules}
 use Rattle.side.proofs.Side.status.Goals as goal
 
 pub returns-then-full : goal.returns-then-full

@@ -1,6 +1,5 @@
 -- `side::Side::synchronised` meets its contract.
 use Rattle.side.specs.Side.{synchronised}
-use borrow.Author.Rules.{rules}
 use Rattle.side.proofs.Side.synchronised.Goals as goal
 
 pub returns-then-sent : goal.returns-then-sent

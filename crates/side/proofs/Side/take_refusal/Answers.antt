@@ -1,7 +1,6 @@
 -- `side::Side::take_refusal` meets its contract.
 use Rattle.frame.proofs.Tests.{tests}
 use Rattle.side.specs.Slot.{take_refusal}
-use borrow.Author.Rules.{rules}
 use Rattle.side.proofs.Side.take_refusal.Goals as goal
 
 pub returns-then-wrong-ne0 : goal.returns-then-wrong-ne0

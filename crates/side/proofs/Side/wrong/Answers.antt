@@ -1,7 +1,6 @@
 -- `side::Side::wrong` meets its contract.
 use Rattle.frame.proofs.Tests.{tests}
 use Rattle.side.specs.Right.{side_wrong}
-use borrow.Author.Rules.{rules}
 use Rattle.side.proofs.Side.wrong.Goals as goal
 
 pub returns-then-wrong-ne0 : goal.returns-then-wrong-ne0
@@ -18,8 +17,8 @@ returns-then-wrong-ne0-3 c = let d = c in search (tests, ← c.slot_wrong-wrong.
 
 pub returns-then-wrong-ne0-4 : goal.returns-then-wrong-ne0-4
 unfolding side_wrong
-returns-then-wrong-ne0-4 c = let d = c in let e = d in search (tests, ← c.slot_wrong-wrong-2.ensures, ← d.slot_wrong-wrong.ensures, ← e.count-wrong2.ensures, ← e.count-wrong.ensures)
+returns-then-wrong-ne0-4 c = let d = c in let e = d in search (tests, ← c.slot_wrong-wrong-2.ensures, ← d.slot_wrong-wrong.ensures, ← e.count_wrong-wrong-2.ensures, ← e.count_wrong-wrong.ensures)
 
 pub returns : goal.returns
 unfolding side_wrong
-returns c = let d = c in let e = d in let f = e in search (tests, c.sent_wrong.ensures, ← d.slot_wrong-wrong-2.ensures, ← e.slot-wrong.ensures, ← f.count-wrong2.ensures, ← f.count-wrong.ensures)
+returns c = let d = c in let e = d in let f = e in search (tests, c.sent_wrong.ensures, ← d.slot_wrong-wrong-2.ensures, ← e.slot_wrong-wrong.ensures, ← f.count_wrong-wrong-2.ensures, ← f.count_wrong-wrong.ensures)

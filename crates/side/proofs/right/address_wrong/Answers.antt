@@ -1,7 +1,6 @@
 -- `side::right::address_wrong` meets its contract.
 use Rattle.frame.proofs.Tests.{tests}
 use Rattle.side.specs.Right.{address_wrong}
-use borrow.Author.Rules.{rules}
 use Rattle.side.proofs.right.address_wrong.Goals as goal
 
 pub returns-then-refusal-ne0 : goal.returns-then-refusal-ne0

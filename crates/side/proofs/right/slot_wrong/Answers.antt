@@ -1,11 +1,6 @@
 -- `side::right::slot_wrong` meets its contract.
 use Rattle.frame.proofs.Tests.{tests}
-use mathlib.Core.Path.{◌≡◌, sym}
-use native.Mathlib.Omega.{arith}
-use lib.ListN.{length}
-use lib.Seq.{length-take-le}
 use Rattle.side.specs.Right.{slot_wrong}
-use borrow.Author.Rules.{rules}
 use Rattle.side.proofs.right.slot_wrong.Goals as goal
 
 pub returns-then-size-eq0 : goal.returns-then-size-eq0

@@ -1,6 +1,5 @@
 -- `side::rule::is_rnr` meets its contract.
 use Rattle.side.specs.Rule.{is_rnr}
-use borrow.Author.Rules.{rules}
 use Rattle.side.proofs.rule.is_rnr.Goals as goal
 
 pub returns-in-I : goal.returns-in-I
