@@ -1,0 +1,13 @@
+-- `slave::Slave::clear` meets its contract.
+use borrow.Author.Tests.{eq-eqb}
+use Rattle.frame.proofs.Tests.{tests}
+use Rattle.slave.specs.Slave.{clear_of}
+use Rattle.slave.proofs.Slave.clear.Goals as goal
+
+pub returns-then-wrong-ne0 : goal.returns-then-wrong-ne0
+unfolding clear_of
+returns-then-wrong-ne0 c = search (tests, ← c.wrong-wrong.ensures)
+
+pub returns : goal.returns
+unfolding clear_of
+returns c = let d = c in simp (← d.wrong-wrong.ensures, eq-eqb _ _ d.if-wrong-ne0.false, c.on_side-slave.ensures, c.cleared-after.ensures)
