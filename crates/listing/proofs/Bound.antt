@@ -152,6 +152,7 @@ refused-line n r among = let few = two_digits r (small among) in simp length-app
     small (there (there (here e))) = omega arith
     small (there (there (there (here e)))) = omega arith
     small (there (there (there (there (here e))))) = omega arith
+    small {k = k} (there (there (there (there (there x20))))) = elim x20 [ ]
 
 -- the bytes of q lines of silences from number k on
 unfoldable pub total : ℕ → ℕ → ℕ

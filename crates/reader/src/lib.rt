@@ -9,7 +9,6 @@ ghost use Rattle.reader.specs.Read.{check_refusal, content_answer, fitting, fram
 
 use crate::seek::Located;
 use bits::{check, count};
-use bytes::copy;
 use frame::control::Decoded;
 use frame::{Meaning, control, message, number, refusal};
 
@@ -143,6 +142,7 @@ fn deliver(address: u8, meaning: Meaning, information: &[u8], out: &mut [u8]) ->
     if out.len() < information.len() {
         return Reading::Refused(number::OUTPUT);
     }
-    let size = copy(information, out);
+    let size = information.len();
+    out[..size].copy_from_slice(information);
     Reading::Frame(address, meaning, size)
 }

@@ -1,0 +1,9 @@
+-- `nrzi::blend` meets its contract.
+use native.Mathlib.Omega.{arith}
+use lib.Pow.{pow_pos}
+use Rattle.nrzi.proofs.Levels.{power, blend_fits}
+use borrow.Author.Rules.{rules}
+use Rattle.nrzi.proofs.blend.Goals as goal
+
+pub overflow_add-result : goal.overflow_add-result
+overflow_add-result c = let a = c.args in rw (power a.fresh a.old a.n c.requires) (record { fits = omega (arith, blend_fits a.fresh a.old a.n c.requires c.ranges.old.fits) })
