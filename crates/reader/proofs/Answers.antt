@@ -44,7 +44,7 @@ Each [] = Unit {0}
 Each (k ∷ ks) = Found k × Each ks
 
 each_found : (n : ℕ) (ks : List ℕ) → Each ks → Among n ks → Found n
-each_found n [] h m = absurd (Memᴰ.not_nil m)
+each_found n [] h m = absurd (Memᴰ.not-nil m)
 each_found n (k ∷ ks) h (here e) = rw e h.0
 each_found n (k ∷ ks) h (there m) = each_found n ks h.1 m
 

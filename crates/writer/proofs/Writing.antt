@@ -16,7 +16,6 @@ use Rattle.frame.proofs.Laws.{pick_among, then_zero, then_among, unless_gives, u
 use Rattle.frame.proofs.Messages.{information_few}
 use Rattle.frame.proofs.Numbers.{numbers}
 use Rattle.bits.specs.Bits.{bits_of}
-use Rattle.bits.specs.Insert.{zeros}
 use Rattle.bits.specs.Packed.{bytes_for}
 use Rattle.bits.proofs.BitLaws.{length_bits_of}
 use Rattle.bits.proofs.Insertion.{zeros-counted}

@@ -1,8 +1,6 @@
 -- `nrzi::blend` meets its contract.
 use native.Mathlib.Omega.{arith}
-use lib.Pow.{pow_pos}
 use Rattle.nrzi.proofs.Levels.{power, blend_fits}
-use borrow.Author.Rules.{rules}
 use Rattle.nrzi.proofs.blend.Goals as goal
 
 pub overflow_add-result : goal.overflow_add-result

@@ -4,7 +4,6 @@ use mathlib.Core.Path.{◌∙◌, refl, sym, ap}
 use Rattle.frame.specs.Answer.{gives, refuses}
 use Rattle.nrzi.specs.Nrzi.{code_of, code_bytes}
 use Rattle.nrzi.proofs.Laid.{taken}
-use borrow.Author.Rules.{rules}
 use Rattle.nrzi.proofs.code.Goals as goal
 
 pub returns-then-refusal-ne0-clause-answer : goal.returns-then-refusal-ne0-clause-answer

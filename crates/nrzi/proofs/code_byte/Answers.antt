@@ -3,7 +3,6 @@ use Prim.Native.Nat.{ℕ, ◌-◌, ◌/◌, ◌^◌}
 use mathlib.Core.Path.{◌∙◌, ap}
 use Rattle.bits.specs.Bits.{odd}
 use Rattle.nrzi.proofs.Levels.{end_of_levels, end_of_bits}
-use borrow.Author.Rules.{rules}
 use Rattle.nrzi.proofs.code_byte.Goals as goal
 
 pub returns-then-back : goal.returns-then-back

@@ -1,10 +1,10 @@
 -- `nrzi::code_whole` meets its contract.
-use Prim.Native.Nat.{ℕ, ◌≤◌, ◌<◌, ◌-◌}
-use mathlib.Core.Path.{◌≡◌, ◌∙◌, refl, ap, ap₂}
+use Prim.Native.Nat.{ℕ, ◌<◌}
+use mathlib.Core.Path.{◌∙◌, refl, ap, ap₂}
 use mathlib.Core.Bool.{Bool}
-use mathlib.Core.List.{List, ◌++◌}
+use mathlib.Core.List.{List}
 use native.Mathlib.Omega.{arith}
-use lib.ListN.{length, get_or, set, take, drop, length-set}
+use lib.ListN.{length, get_or, set, length-set}
 use Rattle.bits.specs.Bits.{low, val, bits_of, bytes_of}
 use Rattle.nrzi.specs.Nrzi.{coding, reached}
 use Rattle.nrzi.proofs.Levels.{reached_more, coding_more}

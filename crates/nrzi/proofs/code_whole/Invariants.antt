@@ -1,13 +1,10 @@
 -- `nrzi::code_whole` meets its contract.
-use Prim.Native.Nat.{ℕ, ◌≤◌, ◌<◌, ◌-◌}
-use mathlib.Core.Path.{◌≡◌, ◌∙◌, refl, ap, ap₂}
-use mathlib.Core.Bool.{Bool}
-use mathlib.Core.List.{List, ◌++◌}
-use native.Mathlib.Omega.{arith}
-use lib.ListN.{length, get_or, set, take, drop, length-set}
-use Rattle.bits.specs.Bits.{low, val, bits_of, bytes_of}
+use Prim.Native.Nat.{◌≤◌, ◌-◌}
+use mathlib.Core.Path.{◌≡◌}
+use mathlib.Core.List.{◌++◌}
+use lib.ListN.{length, take, drop}
+use Rattle.bits.specs.Bits.{bits_of, bytes_of}
 use Rattle.nrzi.specs.Nrzi.{coding, reached}
-use Rattle.nrzi.proofs.Levels.{reached_more, coding_more}
 use Rattle.nrzi.proofs.code_whole.Given as goal
 
 abbrev pub invariant-loop-i : goal.invariant-loop-i

@@ -8,7 +8,6 @@ use lib.ListN.{get_or, set, drop}
 use Rattle.bits.specs.Bits.{low, val}
 use Rattle.nrzi.specs.Nrzi.{coding, reached}
 use Rattle.nrzi.proofs.Laid.{laid_whole, laid-part}
-use borrow.Author.Rules.{rules}
 use Rattle.nrzi.proofs.lay.Goals as goal
 
 pub returns-then-rest-eq0-clause-answer : goal.returns-then-rest-eq0-clause-answer

@@ -6,7 +6,6 @@ use borrow.Author.Tests.{lt-ltb, le-ltb, eq-eqb}
 use Rattle.frame.proofs.Tests.{tests}
 use Rattle.bits.proofs.Counting.{count_passed}
 use Rattle.nrzi.specs.Nrzi.{nrzi_refusal}
-use borrow.Author.Rules.{rules}
 use Rattle.nrzi.proofs.nrzi_refusal.Goals as goal
 
 pub returns-then-refusal-ne0 : goal.returns-then-refusal-ne0

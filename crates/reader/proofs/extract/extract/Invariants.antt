@@ -1,0 +1,20 @@
+-- `reader::extract::extract` meets its contract. The invariant: the kept bits of the part before the place stand in the bytes and in the window. The measure is what is left of the part.
+use Prim.Native.Nat.{ℕ, ◌-◌, ◌*◌, ◌/◌, ◌+◌, ◌<◌, ◌≤◌}
+use mathlib.Core.Path.{◌≡◌, ◌∙◌, ap, refl}
+use mathlib.Core.Bool.{Bool, true}
+use mathlib.Core.List.{List, [], ◌∷◌, ◌++◌}
+use native.Mathlib.Omega.{arith}
+use lib.ListN.{length, get_or, set, drop, length-set, length-take}
+use Rattle.bits.specs.Bits.{bits_of, num}
+use Rattle.bits.proofs.BitLaws.{num_small, length_bits_of}
+use Rattle.reader.specs.Extract.{run_after}
+use Rattle.reader.specs.Flags.{part}
+use Rattle.reader.proofs.Keeping.{Keep, keep_first, keep_skip, keep_bit, keep_all, part-next}
+use Rattle.reader.proofs.extract.extract.Given as goal
+
+abbrev pub invariant-loop-place : goal.invariant-loop-place
+invariant-loop-place l =
+    (l.start ≤ l.place) × (l.place ≤ l.end) × (length l.bytes ≡ length l.initial.bytes) × Keep (part l.start l.place (bits_of l.buffer)) l.bytes l.kept l.window l.run
+
+abbrev pub decreases-loop-place : goal.decreases-loop-place
+decreases-loop-place l = l.end - l.place
