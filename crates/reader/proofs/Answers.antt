@@ -108,6 +108,7 @@ check_found f = pick_among (eqb (check_word (take (length f - 2) f)) (get_or f (
 meant_lists : (x : Answer Meaning) (a : ℕ) (info : List ℕ) → Lists (9 ∷ []) x → Lists reading (meant x a info)
 meant_lists (gives m) a info h = unless_lists (record { address = a; meaning = m; information = info }) (each_found (information_refusal m info) (0 ∷ 10 ∷ 12 ∷ []) (n0, (n10, (n12, tt))) (numbers.information m info))
 meant_lists (refuses n) a info (here e) = rw e (found_among 9 (λ z. omega arith) n9)
+meant_lists (refuses n) a info (there x5) = elim x5 [ ]
 
 frame_lists : (f : List ℕ) → Lists reading (frame_answer f)
 unfolding frame_answer

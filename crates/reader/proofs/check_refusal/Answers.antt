@@ -1,10 +1,6 @@
 -- `reader::check_refusal` meets its contract.
-use Prim.Native.Nat.{◌-◌}
 use mathlib.Core.Path.{◌∙◌, sym}
 use native.Mathlib.Omega.{arith}
-use lib.ListN.{length}
-use lib.Seq.{length-take-le}
-use borrow.Author.Rules.{rules}
 use borrow.Author.Tests.{eq-eqb, ne_eqb}
 use Rattle.reader.proofs.Judging.{check_decides}
 use Rattle.reader.proofs.check_refusal.Goals as goal

@@ -4,7 +4,6 @@ use mathlib.Core.Bool.{Bool}
 use mathlib.Core.List.{List}
 use native.Mathlib.Omega.{arith}
 use lib.ListN.{length, take}
-use borrow.Author.Rules.{rules}
 use Rattle.bits.specs.Bits.{bits_of}
 use Rattle.bits.proofs.Counting.{count_passed}
 use Rattle.reader.specs.Flags.{part, nothing, content}
@@ -37,9 +36,8 @@ content-requires c =
     let d = c in
     let a = d.args in
     let p = count_passed (length a.buffer.now) a.bits (sym d.bit_count_refusal-refusal.ensures ∙ d.if-refusal-ne0.false) in
-    let g = c.located-1.given in
-    let is : d.find-located.result ≡ Between g.0.0 g.0.1.0 = g.1 in
-    let w : LocatedWithin a.bits (Between g.0.0 g.0.1.0) = rw is at d.find-located.ensures.within in
+    let is : d.find-located.result ≡ Between c.in-Between.start c.in-Between.end = c.in-Between.is in
+    let w : LocatedWithin a.bits (Between c.in-Between.start c.in-Between.end) = rw is at d.find-located.ensures.within in
     (w.0, omega arith, omega arith)
 
 pub returns-in-Nowhere-clause-answer : goal.returns-in-Nowhere-clause-answer
@@ -68,14 +66,13 @@ returns-in-Between-clause-answer c =
     let d = e in
     let a = d.args in
     let l = take a.bits (bits_of a.buffer.now) in
-    let g = e.located-1.given in
-    let is : d.find-located.result ≡ Between g.0.0 g.0.1.0 = g.1 in
-    let w : LocatedWithin a.bits (Between g.0.0 g.0.1.0) = rw is at d.find-located.ensures.within in
+    let is : d.find-located.result ≡ Between c.in-Between.start c.in-Between.end = c.in-Between.is in
+    let w : LocatedWithin a.bits (Between c.in-Between.start c.in-Between.end) = rw is at d.find-located.ensures.within in
     (settles_same _ _ c.content.result _ _
-    (heard-judged a.buffer.now a.bits (length a.out.now) (sym d.bit_count_refusal-refusal.ensures ∙ d.if-refusal-ne0.false) (content g.0.0 (part g.0.0 g.0.1.0 l))
+    (heard-judged a.buffer.now a.bits (length a.out.now) (sym d.bit_count_refusal-refusal.ensures ∙ d.if-refusal-ne0.false) (content c.in-Between.start (part c.in-Between.start c.in-Between.end l))
     (ap (located_in l) (sym is) ∙ d.find-located.ensures.content)
-    ∙ ap (λ (x : List Bool). fitting (length a.out.now) (content_answer x)) (part_within g.0.0 g.0.1.0 a.bits (bits_of a.buffer.now) w.0 w.1))
-    c.content.ensures).0
+    ∙ ap (λ (x : List Bool). fitting (length a.out.now) (content_answer x)) (part_within c.in-Between.start c.in-Between.end a.bits (bits_of a.buffer.now) w.0 w.1))
+    (c.content.ensures.answer, c.content.ensures.information)).0
 
 pub returns-in-Between-clause-information : goal.returns-in-Between-clause-information
 returns-in-Between-clause-information c =
@@ -83,11 +80,10 @@ returns-in-Between-clause-information c =
     let d = e in
     let a = d.args in
     let l = take a.bits (bits_of a.buffer.now) in
-    let g = e.located-1.given in
-    let is : d.find-located.result ≡ Between g.0.0 g.0.1.0 = g.1 in
-    let w : LocatedWithin a.bits (Between g.0.0 g.0.1.0) = rw is at d.find-located.ensures.within in
+    let is : d.find-located.result ≡ Between c.in-Between.start c.in-Between.end = c.in-Between.is in
+    let w : LocatedWithin a.bits (Between c.in-Between.start c.in-Between.end) = rw is at d.find-located.ensures.within in
     (settles_same _ _ c.content.result _ _
-    (heard-judged a.buffer.now a.bits (length a.out.now) (sym d.bit_count_refusal-refusal.ensures ∙ d.if-refusal-ne0.false) (content g.0.0 (part g.0.0 g.0.1.0 l))
+    (heard-judged a.buffer.now a.bits (length a.out.now) (sym d.bit_count_refusal-refusal.ensures ∙ d.if-refusal-ne0.false) (content c.in-Between.start (part c.in-Between.start c.in-Between.end l))
     (ap (located_in l) (sym is) ∙ d.find-located.ensures.content)
-    ∙ ap (λ (x : List Bool). fitting (length a.out.now) (content_answer x)) (part_within g.0.0 g.0.1.0 a.bits (bits_of a.buffer.now) w.0 w.1))
-    c.content.ensures).1
+    ∙ ap (λ (x : List Bool). fitting (length a.out.now) (content_answer x)) (part_within c.in-Between.start c.in-Between.end a.bits (bits_of a.buffer.now) w.0 w.1))
+    (c.content.ensures.answer, c.content.ensures.information)).1

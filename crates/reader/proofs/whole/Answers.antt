@@ -1,7 +1,6 @@
 -- `reader::whole` meets its contract.
 use mathlib.Core.Path.{◌≡◌, ◌∙◌, sym, ap}
 use lib.ListN.{length, get_or}
-use borrow.Author.Rules.{rules}
 use Prim.Native.Nat.{ℕ}
 use mathlib.Core.List.{List}
 use Rattle.frame.specs.Answer.{gives, refuses}
@@ -42,59 +41,55 @@ returns-in-Known-clause-answer c =
     let k = c in
     let d = k in
     let t = d in
-    let g = k.decoded-1.given in
-    let is : d.decode-decoded.result ≡ Known g.0.0 = g.1 in
+    let is : d.decode-decoded.result ≡ Known c.in-Known.meaning = c.in-Known.is in
     let a = t.args in
     let room = length a.out.now in
     let f = a.frame.now in
     (settles_same _ _ c.deliver.result _ _
     (control_known f room (sym t.check_refusal-wrong.ensures ∙ t.if-wrong-ne0.false)
     (sym t.address_refusal-refusal.ensures ∙ t.if-refusal-ne0.false)
-    (gives g.0.0)
+    (gives c.in-Known.meaning)
     (sym d.decode-decoded.ensures ∙ ap decoded is)
-    ∙ ap (λ (i : List ℕ). fitting room (meant (gives g.0.0) (get_or f 0 0) i)) (sym k.information.ensures))
-    c.deliver.ensures).0
+    ∙ ap (λ (i : List ℕ). fitting room (meant (gives c.in-Known.meaning) (get_or f 0 0) i)) (sym k.information.ensures))
+    (c.deliver.ensures.answer, c.deliver.ensures.information)).0
 
 pub returns-in-Known-clause-information : goal.returns-in-Known-clause-information
 returns-in-Known-clause-information c =
     let k = c in
     let d = k in
     let t = d in
-    let g = k.decoded-1.given in
-    let is : d.decode-decoded.result ≡ Known g.0.0 = g.1 in
+    let is : d.decode-decoded.result ≡ Known c.in-Known.meaning = c.in-Known.is in
     let a = t.args in
     let room = length a.out.now in
     let f = a.frame.now in
     (settles_same _ _ c.deliver.result _ _
     (control_known f room (sym t.check_refusal-wrong.ensures ∙ t.if-wrong-ne0.false)
     (sym t.address_refusal-refusal.ensures ∙ t.if-refusal-ne0.false)
-    (gives g.0.0)
+    (gives c.in-Known.meaning)
     (sym d.decode-decoded.ensures ∙ ap decoded is)
-    ∙ ap (λ (i : List ℕ). fitting room (meant (gives g.0.0) (get_or f 0 0) i)) (sym k.information.ensures))
-    c.deliver.ensures).1
+    ∙ ap (λ (i : List ℕ). fitting room (meant (gives c.in-Known.meaning) (get_or f 0 0) i)) (sym k.information.ensures))
+    (c.deliver.ensures.answer, c.deliver.ensures.information)).1
 
 pub returns-in-Refused-clause-answer : goal.returns-in-Refused-clause-answer
 returns-in-Refused-clause-answer c =
     let d = c in
     let t = d in
-    let g = c.decoded-in-Refused-1.given in
-    let is : d.decode-decoded.result ≡ NotKnown g.0.0 = g.1 in
+    let is : d.decode-decoded.result ≡ NotKnown c.in-Refused.n = c.in-Refused.is in
     let a = t.args in
-    (settles_refused _ g.0.0 a.out.now
+    (settles_refused _ c.in-Refused.n a.out.now
     (control_known a.frame.now (length a.out.now) (sym t.check_refusal-wrong.ensures ∙ t.if-wrong-ne0.false)
     (sym t.address_refusal-refusal.ensures ∙ t.if-refusal-ne0.false)
-    (refuses g.0.0)
+    (refuses c.in-Refused.n)
     (sym d.decode-decoded.ensures ∙ ap decoded is))).0
 
 pub returns-in-Refused-clause-information : goal.returns-in-Refused-clause-information
 returns-in-Refused-clause-information c =
     let d = c in
     let t = d in
-    let g = c.decoded-in-Refused-1.given in
-    let is : d.decode-decoded.result ≡ NotKnown g.0.0 = g.1 in
+    let is : d.decode-decoded.result ≡ NotKnown c.in-Refused.n = c.in-Refused.is in
     let a = t.args in
-    (settles_refused _ g.0.0 a.out.now
+    (settles_refused _ c.in-Refused.n a.out.now
     (control_known a.frame.now (length a.out.now) (sym t.check_refusal-wrong.ensures ∙ t.if-wrong-ne0.false)
     (sym t.address_refusal-refusal.ensures ∙ t.if-refusal-ne0.false)
-    (refuses g.0.0)
+    (refuses c.in-Refused.n)
     (sym d.decode-decoded.ensures ∙ ap decoded is))).1

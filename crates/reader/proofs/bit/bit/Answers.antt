@@ -1,7 +1,6 @@
 -- `reader::bit::bit` meets its contract.
 use mathlib.Core.Path.{◌∙◌, sym, ap}
 use mathlib.Core.Bool.{true}
-use borrow.Author.Rules.{rules}
 use Rattle.bits.specs.Bits.{num}
 use Rattle.bits.proofs.BitLaws.{num-odd}
 use Rattle.reader.proofs.BitAt.{bit_at}

@@ -6,10 +6,10 @@ use mathlib.Core.List.{List, [], ◌∷◌, ◌++◌}
 use native.Mathlib.Omega.{arith}
 use lib.ListN.{length, get_or, set, drop, length-set, length-take}
 use Rattle.bits.specs.Bits.{bits_of, num}
-use Rattle.bits.proofs.BitLaws.{num_small, length_bits_of}
+use Rattle.bits.proofs.BitLaws.{length_bits_of}
 use Rattle.reader.specs.Extract.{run_after}
 use Rattle.reader.specs.Flags.{part}
-use Rattle.reader.proofs.Keeping.{Keep, keep_first, keep_skip, keep_bit, keep_all, part-next}
+use Rattle.reader.proofs.Keeping.{Keep, keep_first, keep_skip, keep_bit, part-next}
 use Rattle.reader.proofs.extract.extract.Goals as goal
 
 -- as many bits are kept as there are, at most

@@ -1,15 +1,10 @@
 -- `reader::extract::extract` meets its contract. The invariant: the kept bits of the part before the place stand in the bytes and in the window. The measure is what is left of the part.
-use Prim.Native.Nat.{ℕ, ◌-◌, ◌*◌, ◌/◌, ◌+◌, ◌<◌, ◌≤◌}
-use mathlib.Core.Path.{◌≡◌, ◌∙◌, ap, refl}
-use mathlib.Core.Bool.{Bool, true}
-use mathlib.Core.List.{List, [], ◌∷◌, ◌++◌}
-use native.Mathlib.Omega.{arith}
-use lib.ListN.{length, get_or, set, drop, length-set, length-take}
-use Rattle.bits.specs.Bits.{bits_of, num}
-use Rattle.bits.proofs.BitLaws.{num_small, length_bits_of}
-use Rattle.reader.specs.Extract.{run_after}
+use Prim.Native.Nat.{◌-◌, ◌≤◌}
+use mathlib.Core.Path.{◌≡◌}
+use lib.ListN.{length}
+use Rattle.bits.specs.Bits.{bits_of}
 use Rattle.reader.specs.Flags.{part}
-use Rattle.reader.proofs.Keeping.{Keep, keep_first, keep_skip, keep_bit, keep_all, part-next}
+use Rattle.reader.proofs.Keeping.{Keep}
 use Rattle.reader.proofs.extract.extract.Given as goal
 
 abbrev pub invariant-loop-place : goal.invariant-loop-place
