@@ -21,13 +21,13 @@ use Rattle.slave.specs.Slave.{slave_wrong as end_wrong, begun, make_of, put_of, 
 use Rattle.slave.specs.Step.{step_of}
 use Rattle.slave.specs.declared.Slave.{Slave}
 use Rattle.slave.proofs.Keeps.{keeps as slave, parts as slave-parts}
-use Rattle.slave.proofs.Slots.{slave_put, slave-take, slave-step, slave_restart, slave_clear}
+use Rattle.slave.proofs.Slots.{slave_put_lem, slave-take, slave-step, slave_restart_lem, slave_clear_lem}
 use Rattle.master.specs.Master.{master_wrong as masterEndWrong, limit_refusal, limit_wrong, outer_wrong, begun as masterBegun, make_refusal, make_of as masterMakeOf, put_of as masterPutOf, take_of as masterTakeOf, restart_of as masterRestartOf, clear_of as masterClearOf}
 use Rattle.master.specs.Order.{order_of}
 use Rattle.master.specs.Response.{response_of, silence_of}
 use Rattle.master.specs.declared.Master.{Master}
 use Rattle.master.proofs.Keeps.{keeps as master, parts as master-parts}
-use Rattle.master.proofs.Slots.{Holds, master_put, master-take, master-order, master_response, master-silence, master_restart, master_clear}
+use Rattle.master.proofs.Slots.{Holds, master_put_lem, master-take, master-order, master_response_lem, master-silence, master_restart_lem, master_clear_lem}
 use Rattle.layout.specs.Layout.{side_at, side_bytes}
 use Rattle.layout.specs.SlaveLayout.{slave_at, slave_bytes, slave_wrong}
 use Rattle.layout.specs.MasterLayout.{master_at, master_bytes, master_tail, master_wrong}
@@ -146,21 +146,21 @@ unfolding slave_put slave_take slave_step slave_restart slave_clear master_put m
 keeps =
     record {
       slave_make = slave_make_lem;
-      slave_put = λ b m r. on_slave_lem b (λ (s : Slave). put_of s m) r (slave_put (slave_at b) m (lays_size m)) (slave.put (slave_at b) m);
+      slave_put = λ b m r. on_slave_lem b (λ (s : Slave). put_of s m) r (slave_put_lem (slave_at b) m (lays_size m)) (slave.put (slave_at b) m);
       slave_take = λ b n r. on_slave_lem b (λ (s : Slave). take_of s n) r (slave-take (slave_at b) n) (slave.take (slave_at b) n);
       slave_step = λ b a c m n r.
           on_slave_lem b (λ (s : Slave). step_of s a (meaning_of c) m n) r (slave-step (slave_at b) a (meaning_of c) m n (lays_size m)) (slave.step (slave_at b) a (meaning_of c) m n);
-      slave_restart = λ b r. on_slave_lem b restart_of r (slave_restart (slave_at b)) (slave.restart (slave_at b));
-      slave_clear = λ b r. on_slave_lem b clear_of r (slave_clear (slave_at b)) (slave.clear (slave_at b));
+      slave_restart = λ b r. on_slave_lem b restart_of r (slave_restart_lem (slave_at b)) (slave.restart (slave_at b));
+      slave_clear = λ b r. on_slave_lem b clear_of r (slave_clear_lem (slave_at b)) (slave.clear (slave_at b));
       master_make = master_make_lem;
-      master_put = λ b m r. on_master_lem b (λ (s : Master). masterPutOf s m) r (master_put (master_at b) m (lays_size m)) (master.put (master_at b) m);
+      master_put = λ b m r. on_master_lem b (λ (s : Master). masterPutOf s m) r (master_put_lem (master_at b) m (lays_size m)) (master.put (master_at b) m);
       master_take = λ b n r. on_master_lem b (λ (s : Master). masterTakeOf s n) r (master-take (master_at b) n) (master.take (master_at b) n);
       master_order = λ b t n h r. on_master_lem b (λ (s : Master). order_of s t n) r (master-order (master_at b) t n h) (master.order (master_at b) t n);
       master_response = λ b t a c m r.
           on_master_lem b (λ (s : Master). response_of s a (meaning_of c) m t) r
-          (master_response (master_at b) a (meaning_of c) m t (lays_size m))
+          (master_response_lem (master_at b) a (meaning_of c) m t (lays_size m))
           (master.response (master_at b) a (meaning_of c) m t);
       master_silence = λ b r. on_master_lem b silence_of r (master-silence (master_at b)) (master.silence (master_at b));
-      master_restart = λ b r. on_master_lem b masterRestartOf r (master_restart (master_at b) (omega arith)) (master.restart (master_at b));
-      master_clear = λ b r. on_master_lem b masterClearOf r (master_clear (master_at b)) (master.clear (master_at b));
+      master_restart = λ b r. on_master_lem b masterRestartOf r (master_restart_lem (master_at b) (omega arith)) (master.restart (master_at b));
+      master_clear = λ b r. on_master_lem b masterClearOf r (master_clear_lem (master_at b)) (master.clear (master_at b));
     }

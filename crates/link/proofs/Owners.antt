@@ -149,13 +149,13 @@ module _ (w : World) where
       over : lists.World
       over = over_lists w
 
-  pub master_put : (m : List ℕ) → Does (over_lists w) (over_lists (step w (master_put m))) neither
+  pub master_put_lem : (m : List ℕ) → Does (over_lists w) (over_lists (step w (master_put m))) neither
   unfolding master.put_of
-  master_put m = put_does w master_owner (master.outer_wrong w.master.address w.master.limit) m
+  master_put_lem m = put_does w master_owner (master.outer_wrong w.master.address w.master.limit) m
 
-  pub slave_put : (m : List ℕ) → Does (over_lists w) (over_lists (step w (slave_put m))) neither
+  pub slave_put_lem : (m : List ℕ) → Does (over_lists w) (over_lists (step w (slave_put m))) neither
   unfolding slave.put_of
-  slave_put m = put_does w slave_owner (address_wrong w.slave.address) m
+  slave_put_lem m = put_does w slave_owner (address_wrong w.slave.address) m
 
   pub master-take : (out : List ℕ) → Arrays w.master.side → Does (over_lists w) (over_lists (step w (master_take out))) neither
   unfolding master.take_of
@@ -165,13 +165,13 @@ module _ (w : World) where
   unfolding slave.take_of
   slave-take out a = take_does w slave_owner (address_wrong w.slave.address) out a
 
-  pub master_clear : Does (over_lists w) (over_lists (step w master_clear)) neither
+  pub master_clear_lem : Does (over_lists w) (over_lists (step w master_clear)) neither
   unfolding master.clear_of
-  master_clear = clear_does w master_owner (master.master_wrong w.master)
+  master_clear_lem = clear_does w master_owner (master.master_wrong w.master)
 
-  pub slave_clear : Does (over_lists w) (over_lists (step w slave_clear)) neither
+  pub slave_clear_lem : Does (over_lists w) (over_lists (step w slave_clear)) neither
   unfolding slave.clear_of
-  slave_clear = clear_does w slave_owner (slave.slave_wrong w.slave)
+  slave_clear_lem = clear_does w slave_owner (slave.slave_wrong w.slave)
 
   -- what is said to another station changes nothing: the step refuses it
   pub slave_overhears : (a : ℕ) (f : Meaning) (k out : List ℕ) → Does (over_lists w) (over_lists (step w (overhears a f k out))) neither

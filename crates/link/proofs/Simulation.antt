@@ -22,12 +22,12 @@ use Rattle.link.proofs.Lines as lines
 use Rattle.link.proofs.Slots.{sized}
 
 pub does : (w : World) (e : Event) → Sized w → Does (over_lists w) (over_lists (step w e)) (turn w e)
-does w (master_put m) a = owners.master_put w m
-does w (slave_put m) a = owners.slave_put w m
+does w (master_put m) a = owners.master_put_lem w m
+does w (slave_put m) a = owners.slave_put_lem w m
 does w (master_take out) a = owners.master-take w out a.master
 does w (slave_take out) a = owners.slave-take w out a.slave
-does w master_clear a = owners.master_clear w
-does w slave_clear a = owners.slave_clear w
+does w master_clear a = owners.master_clear_lem w
+does w slave_clear a = owners.slave_clear_lem w
 does w (order tick out) a = lines.order_does w tick out a.master
 does w (arrives out) a = lines.arrives_does w out a.slave
 does w (hears tick) a = lines.hears_does w tick

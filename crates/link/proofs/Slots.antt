@@ -7,8 +7,8 @@ use lib.ListN.{length}
 use Rattle.frame.proofs.Laws.{pick_both}
 use Rattle.side.specs.Side.{Slots}
 use Rattle.side.proofs.Slots.{Lays, lays_size}
-use Rattle.slave.proofs.Slots.{slave_put, slave-take, slave-step, slave_clear}
-use Rattle.master.proofs.Slots.{Holds, master_put, master-take, master-order, master_response, master-silence, master_clear}
+use Rattle.slave.proofs.Slots.{slave_put_lem, slave-take, slave-step, slave_clear_lem}
+use Rattle.master.proofs.Slots.{Holds, master_put_lem, master-take, master-order, master_response_lem, master-silence, master_clear_lem}
 use Rattle.link.specs.Runs.{OnLine, quiet, asks, answers, World, Event, master_put, slave_put, master_take, slave_take, master_clear, slave_clear, order, arrives, hears, lost, foreign, overhears, silence, bears, arrive, hear, step, run, Sized}
 
 pub record Both (H J : List ℕ → Type 0) (w : World) : Type 0 where
@@ -37,12 +37,12 @@ module _ {H J : List ℕ → Type 0} where
   of_master w b = record { slots = b.master; tick = tt }
 
   pub both_slots : ((k : List ℕ) → Lays J k) → (w : World) (e : Event) → PutLays H e → Both H J w → Both H J (step w e)
-  both_slots lays w (master_put k) p b = record { master = (master_put w.master k p (of_master w b)).slots; slave = b.slave }
-  both_slots lays w (slave_put k) p b = record { master = b.master; slave = slave_put w.slave k p b.slave }
+  both_slots lays w (master_put k) p b = record { master = (master_put_lem w.master k p (of_master w b)).slots; slave = b.slave }
+  both_slots lays w (slave_put k) p b = record { master = b.master; slave = slave_put_lem w.slave k p b.slave }
   both_slots lays w (master_take out) p b = record { master = (master-take w.master (length out) (of_master w b)).slots; slave = b.slave }
   both_slots lays w (slave_take out) p b = record { master = b.master; slave = slave-take w.slave (length out) b.slave }
-  both_slots lays w master_clear p b = record { master = (master_clear w.master (of_master w b)).slots; slave = b.slave }
-  both_slots lays w slave_clear p b = record { master = b.master; slave = slave_clear w.slave b.slave }
+  both_slots lays w master_clear p b = record { master = (master_clear_lem w.master (of_master w b)).slots; slave = b.slave }
+  both_slots lays w slave_clear p b = record { master = b.master; slave = slave_clear_lem w.slave b.slave }
   both_slots lays w (order tick out) p b = record { master = (master-order w.master tick (length out) tt (of_master w b)).slots; slave = b.slave }
   both_slots lays w (arrives out) p b = go w.line
     where
@@ -61,13 +61,13 @@ module _ {H J : List ℕ → Type 0} where
       go (asks c) = b
       go (answers c) =
           record {
-            master = (master_response w.master c.address c.meaning c.information tick (lays c.information) (of_master w b)).slots;
+            master = (master_response_lem w.master c.address c.meaning c.information tick (lays c.information) (of_master w b)).slots;
             slave = b.slave;
           }
   both_slots lays w lost p b = record { master = b.master; slave = b.slave }
   both_slots lays w (foreign n f k tick) p b =
       pick_both (Both H J) (bears w.master.address n) _ _ b
-      (record { master = (master_response w.master n f k tick (lays k) (of_master w b)).slots; slave = b.slave })
+      (record { master = (master_response_lem w.master n f k tick (lays k) (of_master w b)).slots; slave = b.slave })
   both_slots lays w (overhears n f k out) p b =
       pick_both (Both H J) (bears w.slave.address n) _ _ b
       (record { master = b.master; slave = slave-step w.slave n f k (length out) (lays k) b.slave })

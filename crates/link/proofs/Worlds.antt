@@ -63,17 +63,17 @@ module _ (s : Slave) where
       go Ndm = ndm_kept f
       go Nrm = heard-kept f (count_rule s.side f k).side (count_rule s.side f k).heard
 
-  slave_put : (k : List ℕ) → KeptSlave (slave.put_of s k).end
+  slave_put_lem : (k : List ℕ) → KeptSlave (slave.put_of s k).end
   unfolding slave.put_of
-  slave_put k = refusing_keeps KeptSlave (address_wrong s.address) s _ refl (λ z. refl)
+  slave_put_lem k = refusing_keeps KeptSlave (address_wrong s.address) s _ refl (λ z. refl)
 
   slave-take : (room : ℕ) → KeptSlave (slave.take_of s room).end
   unfolding slave.take_of
   slave-take room = refusing_keeps KeptSlave (address_wrong s.address) s _ refl (λ z. refl)
 
-  slave_clear : KeptSlave (slave.clear_of s).end
+  slave_clear_lem : KeptSlave (slave.clear_of s).end
   unfolding slave.clear_of
-  slave_clear = refusing_keeps KeptSlave (slave.slave_wrong s) s _ refl (λ z. refl)
+  slave_clear_lem = refusing_keeps KeptSlave (slave.slave_wrong s) s _ refl (λ z. refl)
 
   slave_steps : (n : ℕ) (f : Meaning) (k : List ℕ) (room : ℕ) → KeptSlave (step_of s n f k room).end
   unfolding step_of
@@ -114,9 +114,9 @@ module _ (m : Master) where
       go Connecting = pick_both P (is_ua f) _ _ (record { address = refl; limit = refl }) (touches Disconnecting)
       go Linked = onheard_kept f (count_rule m.side f k).side (count_rule m.side f k).heard
 
-  master_put : (k : List ℕ) → KeptMaster m (master.put_of m k).end
+  master_put_lem : (k : List ℕ) → KeptMaster m (master.put_of m k).end
   unfolding master.put_of
-  master_put k =
+  master_put_lem k =
       refusing_keeps (KeptMaster m) (master.outer_wrong m.address m.limit) m _ master_same
       (λ z. record { address = refl; limit = refl })
 
@@ -126,9 +126,9 @@ module _ (m : Master) where
       refusing_keeps (KeptMaster m) (master.outer_wrong m.address m.limit) m _ master_same
       (λ z. record { address = refl; limit = refl })
 
-  master_clear : KeptMaster m (master.clear_of m).end
+  master_clear_lem : KeptMaster m (master.clear_of m).end
   unfolding master.clear_of
-  master_clear =
+  master_clear_lem =
       refusing_keeps (KeptMaster m) (master.master_wrong m) m _ master_same (λ z. record { address = refl; limit = refl })
 
   master-orders : (tick room : ℕ) → KeptMaster m (order_of m tick room).end
@@ -154,12 +154,12 @@ pub record Kept (w w' : World) : Type 0 where
   pub slave : w'.slave.address ≡ w.slave.address
 
 pub kept : (w : World) (e : Event) → Kept w (step w e)
-kept w (master_put k) = record { master = master_put w.master k; slave = refl }
-kept w (slave_put k) = record { master = master_same w.master; slave = slave_put w.slave k }
+kept w (master_put k) = record { master = master_put_lem w.master k; slave = refl }
+kept w (slave_put k) = record { master = master_same w.master; slave = slave_put_lem w.slave k }
 kept w (master_take out) = record { master = master-take w.master (length out); slave = refl }
 kept w (slave_take out) = record { master = master_same w.master; slave = slave-take w.slave (length out) }
-kept w master_clear = record { master = master_clear w.master; slave = refl }
-kept w slave_clear = record { master = master_same w.master; slave = slave_clear w.slave }
+kept w master_clear = record { master = master_clear_lem w.master; slave = refl }
+kept w slave_clear = record { master = master_same w.master; slave = slave_clear_lem w.slave }
 kept w (order tick out) = record { master = master-orders w.master tick (length out); slave = refl }
 kept w (arrives out) = go w.line
   where

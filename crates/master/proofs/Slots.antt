@@ -25,9 +25,9 @@ pub record Holds (H J : List ℕ → Type 0) (T : ℕ → Type 0) (m : Master) :
   pub tick : T m.tick
 
 module _ {H J : List ℕ → Type 0} {T : ℕ → Type 0} where
-  pub master_put : (m : Master) (k : List ℕ) → Lays H k → Holds H J T m → Holds H J T (put_of m k).end
+  pub master_put_lem : (m : Master) (k : List ℕ) → Lays H k → Holds H J T m → Holds H J T (put_of m k).end
   unfolding put_of
-  master_put m k lays a =
+  master_put_lem m k lays a =
       refusing_keeps (Holds H J T) (outer_wrong m.address m.limit) m _ a (λ z. record { slots = put_slots m.side k lays a.slots; tick = a.tick })
 
   pub master-take : (m : Master) (room : ℕ) → Holds H J T m → Holds H J T (take_of m room).end
@@ -60,9 +60,9 @@ module _ {H J : List ℕ → Type 0} {T : ℕ → Type 0} where
   hears_hold Linked m f k lays a =
       heard-holds m f (count_rule m.side f k).side (count_rule m.side f k).heard a (rule_slots m.side f k lays a.slots)
 
-  pub master_response : (m : Master) (n : ℕ) (f : Meaning) (k : List ℕ) (tick : ℕ) → Lays J k → Holds H J T m → Holds H J T (response_of m n f k tick).end
+  pub master_response_lem : (m : Master) (n : ℕ) (f : Meaning) (k : List ℕ) (tick : ℕ) → Lays J k → Holds H J T m → Holds H J T (response_of m n f k tick).end
   unfolding response_of hears
-  master_response m n f k tick lays a =
+  master_response_lem m n f k tick lays a =
       refusing_keeps (Holds H J T) (response_refusal m f k) m _ a
       (λ z. pick_both (λ (g : Given Report Master). Holds H J T g.end) (counts_as_silence m n tick) _ _
       (record { slots = a.slots; tick = a.tick }) (hears_hold m.mode m f k lays a))
@@ -71,10 +71,10 @@ module _ {H J : List ℕ → Type 0} {T : ℕ → Type 0} where
   unfolding silence_of
   master-silence m a = refusing_keeps (Holds H J T) (silence_refusal m) m _ a (λ z. record { slots = a.slots; tick = a.tick })
 
-  pub master_restart : (m : Master) → T 0 → Holds H J T m → Holds H J T (restart_of m).end
+  pub master_restart_lem : (m : Master) → T 0 → Holds H J T m → Holds H J T (restart_of m).end
   unfolding restart_of
-  master_restart m t a = refusing_keeps (Holds H J T) (master_wrong m) m _ a (λ z. record { slots = restarted_slots m.side a.slots; tick = t })
+  master_restart_lem m t a = refusing_keeps (Holds H J T) (master_wrong m) m _ a (λ z. record { slots = restarted_slots m.side a.slots; tick = t })
 
-  pub master_clear : (m : Master) → Holds H J T m → Holds H J T (clear_of m).end
+  pub master_clear_lem : (m : Master) → Holds H J T m → Holds H J T (clear_of m).end
   unfolding clear_of
-  master_clear m a = refusing_keeps (Holds H J T) (master_wrong m) m _ a (λ z. record { slots = cleared_slots m.side a.slots; tick = a.tick })
+  master_clear_lem m a = refusing_keeps (Holds H J T) (master_wrong m) m _ a (λ z. record { slots = cleared_slots m.side a.slots; tick = a.tick })

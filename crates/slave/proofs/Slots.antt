@@ -23,9 +23,9 @@ abbrev SlotsOf : (List ℕ → Type 0) → (List ℕ → Type 0) → Slave → T
 SlotsOf H J s = Slots H J s.side
 
 module _ {H J : List ℕ → Type 0} where
-  pub slave_put : (s : Slave) (k : List ℕ) → Lays H k → Slots H J s.side → Slots H J (put_of s k).end.side
+  pub slave_put_lem : (s : Slave) (k : List ℕ) → Lays H k → Slots H J s.side → Slots H J (put_of s k).end.side
   unfolding put_of
-  slave_put s k lays a = refusing_keeps (SlotsOf H J) (address_wrong s.address) s _ a (λ z. put_slots s.side k lays a)
+  slave_put_lem s k lays a = refusing_keeps (SlotsOf H J) (address_wrong s.address) s _ a (λ z. put_slots s.side k lays a)
 
   pub slave-take : (s : Slave) (room : ℕ) → Slots H J s.side → Slots H J (take_of s room).end.side
   unfolding take_of
@@ -56,10 +56,10 @@ module _ {H J : List ℕ → Type 0} where
   unfolding step_of moved
   slave-step s n f k room lays a = refusing_keeps (SlotsOf H J) (step_refusal s n f k room) s _ a (λ z. moved_slots s.mode s f k lays a)
 
-  pub slave_restart : (s : Slave) → Slots H J s.side → Slots H J (restart_of s).end.side
+  pub slave_restart_lem : (s : Slave) → Slots H J s.side → Slots H J (restart_of s).end.side
   unfolding restart_of
-  slave_restart s a = refusing_keeps (SlotsOf H J) (slave_wrong s) s _ a (λ z. restarted_slots s.side a)
+  slave_restart_lem s a = refusing_keeps (SlotsOf H J) (slave_wrong s) s _ a (λ z. restarted_slots s.side a)
 
-  pub slave_clear : (s : Slave) → Slots H J s.side → Slots H J (clear_of s).end.side
+  pub slave_clear_lem : (s : Slave) → Slots H J s.side → Slots H J (clear_of s).end.side
   unfolding clear_of
-  slave_clear s a = refusing_keeps (SlotsOf H J) (slave_wrong s) s _ a (λ z. cleared_slots s.side a)
+  slave_clear_lem s a = refusing_keeps (SlotsOf H J) (slave_wrong s) s _ a (λ z. cleared_slots s.side a)
