@@ -1,0 +1,38 @@
+-- `bitbus::master_calls::bitbus_master_order` meets its contract.
+use borrow.Author.Tests.{eq-eqb}
+use Rattle.frame.proofs.Tests.{tests}
+use Rattle.bitbus.specs.MasterCalls.{master_order, master_order_out}
+use borrow.Author.Rules.{rules}
+use Rattle.bitbus.proofs.master_calls.bitbus_master_order.Goals as goal
+
+pub returns-then-wrong-ne0-clause-number : goal.returns-then-wrong-ne0-clause-number
+unfolding master_order master_order_out
+returns-then-wrong-ne0-clause-number c = search (tests, ← c.master_wrong-wrong.ensures)
+
+pub returns-then-wrong-ne0-clause-end : goal.returns-then-wrong-ne0-clause-end
+unfolding master_order master_order_out
+returns-then-wrong-ne0-clause-end c = search (tests, ← c.master_wrong-wrong.ensures)
+
+pub returns-then-wrong-ne0-clause-out : goal.returns-then-wrong-ne0-clause-out
+unfolding master_order master_order_out
+returns-then-wrong-ne0-clause-out c = search (tests, ← c.master_wrong-wrong.ensures)
+
+pub returns-then-wrong-ne0-clause-values : goal.returns-then-wrong-ne0-clause-values
+unfolding master_order master_order_out
+returns-then-wrong-ne0-clause-values c = search (tests, ← c.master_wrong-wrong.ensures)
+
+pub returns-clause-number : goal.returns-clause-number
+unfolding master_order master_order_out
+returns-clause-number c = let f = c.finish_order.ensures in simp (← c.master_wrong-wrong.ensures, eq-eqb _ _ c.if-wrong-ne0.false, ← c.master_at-master.ensures, ← c.order-ordered.ensures.answer) f.number
+
+pub returns-clause-end : goal.returns-clause-end
+unfolding master_order master_order_out
+returns-clause-end c = let f = c.finish_order.ensures in simp (← c.master_wrong-wrong.ensures, eq-eqb _ _ c.if-wrong-ne0.false, ← c.master_at-master.ensures, ← c.order-ordered.ensures.answer) f.end
+
+pub returns-clause-out : goal.returns-clause-out
+unfolding master_order master_order_out
+returns-clause-out c = let f = c.finish_order.ensures in simp (← c.master_wrong-wrong.ensures, eq-eqb _ _ c.if-wrong-ne0.false, ← c.master_at-master.ensures) c.order-ordered.ensures.bytes
+
+pub returns-clause-values : goal.returns-clause-values
+unfolding master_order master_order_out
+returns-clause-values c = let f = c.finish_order.ensures in simp (← c.master_wrong-wrong.ensures, eq-eqb _ _ c.if-wrong-ne0.false, ← c.master_at-master.ensures, ← c.order-ordered.ensures.answer) f.values

@@ -1,0 +1,38 @@
+-- `bitbus::slave_calls::bitbus_slave_take` meets its contract.
+use borrow.Author.Tests.{eq-eqb}
+use Rattle.frame.proofs.Tests.{tests}
+use Rattle.bitbus.specs.SlaveCalls.{slave_take, slave_take_out}
+use borrow.Author.Rules.{rules}
+use Rattle.bitbus.proofs.slave_calls.bitbus_slave_take.Goals as goal
+
+pub returns-then-wrong-ne0-clause-number : goal.returns-then-wrong-ne0-clause-number
+unfolding slave_take slave_take_out
+returns-then-wrong-ne0-clause-number c = search (tests, ← c.slave_wrong-wrong.ensures)
+
+pub returns-then-wrong-ne0-clause-end : goal.returns-then-wrong-ne0-clause-end
+unfolding slave_take slave_take_out
+returns-then-wrong-ne0-clause-end c = search (tests, ← c.slave_wrong-wrong.ensures)
+
+pub returns-then-wrong-ne0-clause-out : goal.returns-then-wrong-ne0-clause-out
+unfolding slave_take slave_take_out
+returns-then-wrong-ne0-clause-out c = search (tests, ← c.slave_wrong-wrong.ensures)
+
+pub returns-then-wrong-ne0-clause-values : goal.returns-then-wrong-ne0-clause-values
+unfolding slave_take slave_take_out
+returns-then-wrong-ne0-clause-values c = search (tests, ← c.slave_wrong-wrong.ensures)
+
+pub returns-clause-number : goal.returns-clause-number
+unfolding slave_take slave_take_out
+returns-clause-number c = let f = c.finish_take.ensures in simp (← c.slave_wrong-wrong.ensures, eq-eqb _ _ c.if-wrong-ne0.false, ← c.slave_at-slave.ensures, ← c.take-took.ensures.answer) f.number
+
+pub returns-clause-end : goal.returns-clause-end
+unfolding slave_take slave_take_out
+returns-clause-end c = let f = c.finish_take.ensures in simp (← c.slave_wrong-wrong.ensures, eq-eqb _ _ c.if-wrong-ne0.false, ← c.slave_at-slave.ensures, ← c.take-took.ensures.answer) f.end
+
+pub returns-clause-out : goal.returns-clause-out
+unfolding slave_take slave_take_out
+returns-clause-out c = let f = c.finish_take.ensures in simp (← c.slave_wrong-wrong.ensures, eq-eqb _ _ c.if-wrong-ne0.false, ← c.slave_at-slave.ensures) c.take-took.ensures.bytes
+
+pub returns-clause-values : goal.returns-clause-values
+unfolding slave_take slave_take_out
+returns-clause-values c = let f = c.finish_take.ensures in simp (← c.slave_wrong-wrong.ensures, eq-eqb _ _ c.if-wrong-ne0.false, ← c.slave_at-slave.ensures, ← c.take-took.ensures.answer) f.values
