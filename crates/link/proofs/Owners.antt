@@ -9,7 +9,7 @@ use lib.ListN.{length, take}
 use Rattle.frame.specs.Refusal.{frame_refusal}
 use Rattle.frame.specs.declared.Meaning.{Meaning}
 use Rattle.frame.proofs.Laws.{pick_cases, then_zero}
-use Rattle.side.specs.Given.{Given, giving, refused, refusing, lifted, size_given}
+use Rattle.side.specs.Given.{Given, giving, refusing, lifted, size_given}
 use Rattle.side.specs.Side.{cleared, Arrays}
 use Rattle.side.specs.Right.{address_wrong}
 use Rattle.side.specs.Slot.{put_refusal, with_held, put_of, take_refusal, emptied, take_of, laid, room_refusal}

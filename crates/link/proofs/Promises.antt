@@ -19,7 +19,7 @@ use Rattle.delivery.specs.Exchanges.{uncounted}
 use Rattle.delivery.proofs.Live.{in_words_lem}
 use Rattle.delivery.proofs.Simulate.{code_safe, code_honest, code_live, code_synchronising}
 use Rattle.link.specs.Ends.{rules, held_of, end_of, frame_of, master_mode_of}
-use Rattle.link.specs.Runs.{answers, World, Event, made, step, run, from_here, line_of, over_lists, Sized}
+use Rattle.link.specs.Runs.{World, Event, made, step, run, from_here, line_of, over_lists, Sized}
 use Rattle.link.specs.Start.{Start}
 use Rattle.link.specs.Synchronising.{Synchronising}
 use Rattle.link.specs.Safety.{Lined, Safety}

@@ -11,7 +11,7 @@ use lib.Dec.{eqb}
 use lib.ListN.{length, take, length-take}
 use borrow.Author.Tests.{eqb-true, le-ltb}
 use Rattle.frame.specs.Bytes.{Bytes}
-use Rattle.frame.specs.Pick.{pick, ◌then◌}
+use Rattle.frame.specs.Pick.{pick}
 use Rattle.frame.specs.Answer.{Answer, gives, refuses, unless, Among, Lists}
 use Rattle.frame.specs.Refusal.{address_refusal, frame_refusal}
 use Rattle.frame.specs.declared.Meaning.{Meaning}

@@ -292,8 +292,8 @@ follows w r (order tick out lent) p = orders w r tick out lent
 follows w r (arrives room out lent) p = reaches w r room out lent
 follows w r (hears room tick) p = listens w r room tick
 follows w r lost p = loses w r
-follows w r (foreign buffer bits room tick) p = tells w r _ (λ c. hears_others w r c tick) (read_of buffer bits (length room))
-follows w r (overhears buffer bits room out) p = tells w r _ (λ c. overhears_others w r c out) (read_of buffer bits (length room))
+follows w r (foreign buffer bits room tick) p = tells w r (λ x. frames.foreign x.address x.meaning x.information tick) (λ c. hears_others w r c tick) (read_of buffer bits (length room))
+follows w r (overhears buffer bits room out) p = tells w r (λ x. frames.overhears x.address x.meaning x.information out) (λ c. overhears_others w r c out) (read_of buffer bits (length room))
 follows w r silence p = record { ready = typed w r frames.quiet frames.silence tt w.wire r.wire; events = frames.silence ∷ []; same = refl }
 
 -- ---- runs

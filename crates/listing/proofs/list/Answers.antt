@@ -1,6 +1,5 @@
 -- `listing::list` meets its contract.
 use Rattle.listing.proofs.Listings.{list_refused, list_taken}
-use borrow.Author.Rules.{rules}
 use Rattle.listing.proofs.list.Goals as goal
 
 pub returns-then-out-size-clause-answer : goal.returns-then-out-size-clause-answer

@@ -2,7 +2,6 @@
 use mathlib.Core.Path.{sym}
 use Rattle.listing.proofs.Listings.{listing_long, listing_lines}
 use Rattle.listing.proofs.Putting.{put_on, put_as}
-use borrow.Author.Rules.{rules}
 use Rattle.listing.proofs.put_listing.Goals as goal
 
 pub returns-then-capture-gt-MOST_CAPTURE : goal.returns-then-capture-gt-MOST_CAPTURE

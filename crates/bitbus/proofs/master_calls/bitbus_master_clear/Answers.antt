@@ -2,7 +2,6 @@
 use borrow.Author.Tests.{eq-eqb}
 use Rattle.frame.proofs.Tests.{tests}
 use Rattle.bitbus.specs.MasterCalls.{master_clear}
-use borrow.Author.Rules.{rules}
 use Rattle.bitbus.proofs.master_calls.bitbus_master_clear.Goals as goal
 
 pub returns-then-wrong-ne0-clause-number : goal.returns-then-wrong-ne0-clause-number

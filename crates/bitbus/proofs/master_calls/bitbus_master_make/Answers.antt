@@ -1,6 +1,5 @@
 -- `bitbus::master_calls::bitbus_master_make` meets its contract.
 use Rattle.bitbus.specs.MasterCalls.{master_make}
-use borrow.Author.Rules.{rules}
 use Rattle.bitbus.proofs.master_calls.bitbus_master_make.Goals as goal
 
 pub returns-clause-number : goal.returns-clause-number

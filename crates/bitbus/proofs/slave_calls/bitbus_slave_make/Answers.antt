@@ -1,6 +1,5 @@
 -- `bitbus::slave_calls::bitbus_slave_make` meets its contract.
 use Rattle.bitbus.specs.SlaveCalls.{slave_make}
-use borrow.Author.Rules.{rules}
 use Rattle.bitbus.proofs.slave_calls.bitbus_slave_make.Goals as goal
 
 pub returns-clause-number : goal.returns-clause-number

@@ -2,7 +2,6 @@
 use borrow.Author.Tests.{eq-eqb}
 use Rattle.frame.proofs.Tests.{tests}
 use Rattle.bitbus.specs.SlaveCalls.{slave_step, slave_step_out}
-use borrow.Author.Rules.{rules}
 use Rattle.bitbus.proofs.slave_calls.bitbus_slave_step.Goals as goal
 
 pub returns-then-wrong-ne0-clause-number : goal.returns-then-wrong-ne0-clause-number

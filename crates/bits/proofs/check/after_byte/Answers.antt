@@ -3,7 +3,6 @@ use Prim.Native.Nat.{◌/◌}
 use mathlib.Core.Path.{◌∙◌, ap, sym}
 use lib.Bits.{bit_xor}
 use Rattle.bits.proofs.Checking.{register_byte}
-use borrow.Author.Rules.{rules}
 use Rattle.bits.proofs.check.after_byte.Goals as goal
 
 pub returns : goal.returns

@@ -1,12 +1,10 @@
 -- `bits::check::after_zeros` meets its contract: the shifts agree with eight steps of the register at each of the 256 bytes, by one computed comparison.
-use Prim.Native.Nat.{ℕ, ◌*◌, ◌/◌, ◌%◌, ◌<◌}
+use Prim.Native.Nat.{ℕ, ◌*◌, ◌/◌, ◌%◌}
 use mathlib.Core.Path.{refl}
-use native.Mathlib.Omega.{arith}
-use lib.Bits.{bit_xor, xor_lt}
+use lib.Bits.{bit_xor}
 use Rattle.frame.proofs.Computed.{agree}
 use Rattle.bits.specs.Bits.{low}
 use Rattle.bits.specs.Check.{shifted, register, after_zeros}
-use borrow.Author.Rules.{rules}
 use Rattle.bits.proofs.check.after_zeros.Goals as goal
 
 abbrev folded : ℕ → ℕ

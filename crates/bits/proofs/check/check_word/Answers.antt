@@ -2,7 +2,6 @@
 use Prim.Native.Nat.{ℕ, ◌-◌}
 use mathlib.Core.Path.{ap}
 use Rattle.bits.specs.Check.{check_word}
-use borrow.Author.Rules.{rules}
 use Rattle.bits.proofs.check.check_word.Goals as goal
 
 pub returns : goal.returns

@@ -5,7 +5,6 @@ use Rattle.bits.specs.Bits.{bits_of}
 use Rattle.bits.specs.Check.{register, check_word}
 use Rattle.bits.proofs.BitLaws.{bits_of_append}
 use Rattle.bits.proofs.Checking.{register-append}
-use borrow.Author.Rules.{rules}
 use Rattle.bits.proofs.check.check_word_of.Goals as goal
 
 pub returns : goal.returns

@@ -1,8 +1,8 @@
 -- `bits::check::over` meets its contract. The loop's invariant: the bytes that are left take the register to the end. The measure is how many they are.
-use Prim.Native.Nat.{ℕ, ◌+◌, ◌-◌, ◌≤◌, ◌<◌}
+use Prim.Native.Nat.{ℕ, ◌+◌}
 use mathlib.Core.Path.{◌≡◌, ◌∙◌, ap, sym}
 use borrow.Author.Rules.{rules}
-use lib.ListN.{length, drop}
+use lib.ListN.{drop}
 use Rattle.bits.specs.Bits.{bits_of}
 use Rattle.bits.specs.Check.{register}
 use Rattle.bits.proofs.Checking.{register-next, register-done}

@@ -1,11 +1,9 @@
 -- `bits::check::over` meets its contract. The loop's invariant: the bytes that are left take the register to the end. The measure is how many they are.
-use Prim.Native.Nat.{ℕ, ◌+◌, ◌-◌, ◌≤◌, ◌<◌}
-use mathlib.Core.Path.{◌≡◌, ◌∙◌, ap, sym}
-use borrow.Author.Rules.{rules}
+use Prim.Native.Nat.{◌-◌, ◌≤◌, ◌<◌}
+use mathlib.Core.Path.{◌≡◌}
 use lib.ListN.{length, drop}
 use Rattle.bits.specs.Bits.{bits_of}
 use Rattle.bits.specs.Check.{register}
-use Rattle.bits.proofs.Checking.{register-next, register-done}
 use Rattle.bits.proofs.check.over.Given as goal
 
 abbrev pub invariant-loop-i : goal.invariant-loop-i

@@ -2,7 +2,6 @@
 use Prim.Native.Nat.{◌*◌, ◌<◌, ◌≤◌}
 use native.Mathlib.Omega.{arith}
 use lib.ListN.{length}
-use borrow.Author.Rules.{rules}
 use borrow.Author.Tests.{le-ltb, lt-ltb}
 use Rattle.frame.proofs.Tests.{tests}
 use Rattle.bits.specs.Count.{bit_count_refusal}

@@ -4,7 +4,6 @@ use mathlib.Core.Path.{sym, ◌∙◌, ap}
 use Rattle.capture.proofs.Forms.{form_right, body_two, record_refused, record_silent, record_framed}
 use lib.ListN.{length-take, length-drop}
 use native.Mathlib.Omega.{arith}
-use borrow.Author.Rules.{rules}
 use Rattle.capture.proofs.records.first.Goals as goal
 
 pub returns-then-refusal-ne0 : goal.returns-then-refusal-ne0

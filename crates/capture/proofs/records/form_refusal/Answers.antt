@@ -1,7 +1,6 @@
 -- `capture::records::form_refusal` meets its contract.
 use Rattle.frame.proofs.Tests.{tests}
 use Rattle.capture.specs.Record.{form_refusal}
-use borrow.Author.Rules.{rules}
 use Rattle.capture.proofs.records.form_refusal.Goals as goal
 
 pub returns-then-left-lt-HEAD : goal.returns-then-left-lt-HEAD

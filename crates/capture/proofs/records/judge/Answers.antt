@@ -3,7 +3,6 @@ use Rattle.frame.proofs.Tests.{tests}
 use Rattle.capture.specs.Record.{frame_in}
 use mathlib.Core.Path.{sym, ◌∙◌}
 use Rattle.capture.proofs.Forms.{rest_all, frame_controlled}
-use borrow.Author.Rules.{rules}
 use Rattle.capture.proofs.records.judge.Goals as goal
 
 pub returns-then-refusal-ne0 : goal.returns-then-refusal-ne0

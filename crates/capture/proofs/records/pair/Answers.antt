@@ -1,7 +1,6 @@
 -- `capture::records::pair` meets its contract.
 use Rattle.capture.specs.Record.{pair_at}
 use native.Mathlib.Omega.{arith}
-use borrow.Author.Rules.{rules}
 use Rattle.capture.proofs.records.pair.Goals as goal
 
 pub returns : goal.returns

@@ -2,7 +2,6 @@
 use mathlib.Core.Path.{sym, ◌∙◌, ap}
 use Rattle.capture.specs.Record.{record_of, record_at}
 use Rattle.capture.proofs.Forms.{rest_all, record_end}
-use borrow.Author.Rules.{rules}
 use Rattle.capture.proofs.records.read.Goals as goal
 
 pub returns-then-capture-at : goal.returns-then-capture-at

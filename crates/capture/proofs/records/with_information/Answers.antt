@@ -4,7 +4,6 @@ use Rattle.frame.proofs.Messages.{information_few}
 use Rattle.capture.specs.Record.{with_information}
 use native.Mathlib.Omega.{arith}
 use mathlib.Core.Path.{sym, ◌∙◌}
-use borrow.Author.Rules.{rules}
 use Rattle.capture.proofs.records.with_information.Goals as goal
 
 pub returns-then-refusal-ne0 : goal.returns-then-refusal-ne0

@@ -2,7 +2,6 @@
 use mathlib.Core.Path.{◌≡◌}
 use Rattle.frame.specs.declared.control.Encoded.TheVariants.{Byte}
 use Rattle.layout.specs.Control.{control_of}
-use borrow.Author.Rules.{rules}
 use Rattle.layout.proofs.code.control_of.Goals as goal
 
 pub returns-in-Byte : goal.returns-in-Byte

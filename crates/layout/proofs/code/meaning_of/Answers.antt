@@ -2,7 +2,6 @@
 use mathlib.Core.Path.{◌≡◌}
 use Rattle.frame.specs.declared.control.Decoded.TheVariants.{Known}
 use Rattle.layout.specs.Control.{meaning_of}
-use borrow.Author.Rules.{rules}
 use Rattle.layout.proofs.code.meaning_of.Goals as goal
 
 pub returns-in-Known : goal.returns-in-Known

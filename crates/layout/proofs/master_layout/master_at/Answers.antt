@@ -1,6 +1,5 @@
 -- `layout::master_layout::master_at` meets its contract.
 use Rattle.layout.specs.MasterLayout.{master_at}
-use borrow.Author.Rules.{rules}
 use Rattle.layout.proofs.master_layout.master_at.Goals as goal
 
 pub returns : goal.returns

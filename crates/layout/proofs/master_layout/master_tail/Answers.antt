@@ -1,6 +1,5 @@
 -- `layout::master_layout::master_tail` meets its contract.
 use Rattle.layout.specs.MasterLayout.{master_tail}
-use borrow.Author.Rules.{rules}
 use Rattle.layout.proofs.master_layout.master_tail.Goals as goal
 
 pub returns : goal.returns

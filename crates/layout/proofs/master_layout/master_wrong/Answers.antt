@@ -1,7 +1,6 @@
 -- `layout::master_layout::master_wrong` meets its contract.
 use Rattle.frame.proofs.Tests.{tests}
 use Rattle.layout.specs.MasterLayout.{master_wrong}
-use borrow.Author.Rules.{rules}
 use Rattle.layout.proofs.master_layout.master_wrong.Goals as goal
 
 pub returns-then-bytes-gt2 : goal.returns-then-bytes-gt2

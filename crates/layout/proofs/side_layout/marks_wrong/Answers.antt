@@ -1,7 +1,6 @@
 -- `layout::side_layout::marks_wrong` meets its contract.
 use Rattle.frame.proofs.Tests.{tests}
 use Rattle.layout.specs.Layout.{marks_wrong}
-use borrow.Author.Rules.{rules}
 use Rattle.layout.proofs.side_layout.marks_wrong.Goals as goal
 
 pub returns-then-bytes-gt1 : goal.returns-then-bytes-gt1

@@ -1,6 +1,5 @@
 -- `layout::side_layout::side_at` meets its contract.
 use Rattle.layout.specs.Layout.{side_at}
-use borrow.Author.Rules.{rules}
 use Rattle.layout.proofs.side_layout.side_at.Goals as goal
 
 pub returns : goal.returns

@@ -1,6 +1,5 @@
 -- `layout::side_layout::side_head` meets its contract.
 use Rattle.layout.specs.Layout.{side_head}
-use borrow.Author.Rules.{rules}
 use Rattle.layout.proofs.side_layout.side_head.Goals as goal
 
 pub returns : goal.returns

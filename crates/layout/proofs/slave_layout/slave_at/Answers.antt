@@ -1,6 +1,5 @@
 -- `layout::slave_layout::slave_at` meets its contract.
 use Rattle.layout.specs.SlaveLayout.{slave_at}
-use borrow.Author.Rules.{rules}
 use Rattle.layout.proofs.slave_layout.slave_at.Goals as goal
 
 pub returns : goal.returns

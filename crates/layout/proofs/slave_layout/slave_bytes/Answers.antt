@@ -2,7 +2,6 @@
 use mathlib.Core.Path.{◌∙◌}
 use mathlib.Core.List.{append-nil}
 use Rattle.layout.specs.SlaveLayout.{slave_bytes}
-use borrow.Author.Rules.{rules}
 use Rattle.layout.proofs.slave_layout.slave_bytes.Goals as goal
 
 pub returns : goal.returns

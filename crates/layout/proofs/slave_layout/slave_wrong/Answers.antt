@@ -1,7 +1,6 @@
 -- `layout::slave_layout::slave_wrong` meets its contract.
 use Rattle.frame.proofs.Tests.{tests}
 use Rattle.layout.specs.SlaveLayout.{slave_wrong}
-use borrow.Author.Rules.{rules}
 use Rattle.layout.proofs.slave_layout.slave_wrong.Goals as goal
 
 pub returns-then-bytes-gt1 : goal.returns-then-bytes-gt1

@@ -3,7 +3,6 @@ use native.Mathlib.Omega.{arith}
 use Rattle.listing.proofs.Putting.{put_on, put_as}
 use Rattle.listing.proofs.Digits.{decimal_few}
 use mathlib.Core.List.{append_assoc}
-use borrow.Author.Rules.{rules}
 use Rattle.listing.proofs.line.put_frame.Goals as goal
 
 pub put_word-node_at-requires : goal.put_word-node_at-requires

@@ -2,7 +2,6 @@
 use native.Mathlib.Omega.{arith}
 use Rattle.listing.proofs.Putting.{put_on}
 use Rattle.listing.proofs.Digits.{decimal_few}
-use borrow.Author.Rules.{rules}
 use Rattle.listing.proofs.line.put_silence.Goals as goal
 
 pub put_word-requires : goal.put_word-requires

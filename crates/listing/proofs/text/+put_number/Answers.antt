@@ -1,7 +1,6 @@
 -- `listing::text::put_number` meets its contract.
 use Prim.Native.Nat.{◌/◌}
 use native.Mathlib.Omega.{arith}
-use mathlib.Core.Path.{◌∙◌}
 use Rattle.listing.proofs.Digits.{decimal_few}
 use Rattle.listing.proofs.Putting.{put_digit, put_last}
 use Rattle.listing.proofs.text.+put_number.Goals as goal

@@ -1,10 +1,7 @@
 -- `listing::text::put_word` meets its contract.
 use native.Mathlib.Omega.{arith}
-use Prim.Native.Nat.{◌-◌, ◌≤◌}
-use mathlib.Core.Path.{◌≡◌, refl, ◌∙◌, ap}
-use lib.ListN.{length, take}
-use lib.Seq.{sets, length-sets}
-use Rattle.listing.proofs.Putting.{put_next, put_whole}
+use mathlib.Core.Path.{◌∙◌}
+use Rattle.listing.proofs.Putting.{put_next}
 use Rattle.listing.proofs.text.put_word.Goals as goal
 
 pub loop-i-preserved : goal.loop-i-preserved

@@ -1,10 +1,8 @@
 -- `listing::text::put_word` meets its contract.
-use native.Mathlib.Omega.{arith}
 use Prim.Native.Nat.{◌-◌, ◌≤◌}
-use mathlib.Core.Path.{◌≡◌, refl, ◌∙◌, ap}
+use mathlib.Core.Path.{◌≡◌}
 use lib.ListN.{length, take}
-use lib.Seq.{sets, length-sets}
-use Rattle.listing.proofs.Putting.{put_next, put_whole}
+use lib.Seq.{sets}
 use Rattle.listing.proofs.text.put_word.Given as goal
 
 abbrev pub invariant-loop-i : goal.invariant-loop-i
