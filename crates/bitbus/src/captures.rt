@@ -11,8 +11,7 @@ use layout::code;
 use listing::Listed;
 
 // What stands at a place of a capture: 18, 8, 9, 10, 12.
-#[unsafe(no_mangle)]
-pub extern "C" fn bitbus_record(capture: &[u8], at: usize, values: &mut [usize; 5]) -> u32
+pub fn bitbus_record(capture: &[u8], at: usize, values: &mut [usize; 5]) -> u32
     ensures number { result ≡ number (record_at capture.now at) }
     ensures values { values.new ≡ after record_values (record_at capture.now at) values.old }
 {
@@ -56,8 +55,7 @@ fn frame_values(way: usize, frame: Frame, next: usize) -> [usize; 5]
 }
 
 // Writes the listing of a capture and gives its size: 11.
-#[unsafe(no_mangle)]
-pub extern "C" fn bitbus_list(capture: &[u8], out: &mut [u8], values: &mut [usize; 1]) -> u32
+pub fn bitbus_list(capture: &[u8], out: &mut [u8], values: &mut [usize; 1]) -> u32
     ensures number { result ≡ number (list_of capture.now (length out.old)) }
     ensures out { out.new ≡ list_bytes capture.now out.old }
     ensures values { values.new ≡ after list_values (list_of capture.now (length out.old)) values.old }

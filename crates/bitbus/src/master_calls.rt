@@ -14,8 +14,7 @@ use master::{Master, MasterDone, MasterTake};
 use side::answer::{Outcome, TakeAnswer};
 
 // Makes a fresh master: 8, 15.
-#[unsafe(no_mangle)]
-pub extern "C" fn bitbus_master_make(end: &mut [u8; 538], address: u8, limit: u32) -> u32
+pub fn bitbus_master_make(end: &mut [u8; 538], address: u8, limit: u32) -> u32
     ensures number { result ≡ number (master_make end.old address limit).answer }
     ensures end { end.new ≡ (master_make end.old address limit).end }
 {
@@ -24,8 +23,7 @@ pub extern "C" fn bitbus_master_make(end: &mut [u8; 538], address: u8, limit: u3
 }
 
 // Makes the message the held one, unsent: 30, 10, 12, 13.
-#[unsafe(no_mangle)]
-pub extern "C" fn bitbus_master_put(end: &mut [u8; 538], message: &[u8]) -> u32
+pub fn bitbus_master_put(end: &mut [u8; 538], message: &[u8]) -> u32
     ensures number { result ≡ number (master_put end.old message.now).answer }
     ensures end { end.new ≡ (master_put end.old message.now).end }
 {
@@ -40,12 +38,7 @@ pub extern "C" fn bitbus_master_put(end: &mut [u8; 538], message: &[u8]) -> u32
 }
 
 // Writes the waiting message to the lent output and gives its size: 30, 14, 11.
-#[unsafe(no_mangle)]
-pub extern "C" fn bitbus_master_take(
-    end: &mut [u8; 538],
-    out: &mut [u8],
-    values: &mut [usize; 1],
-) -> u32
+pub fn bitbus_master_take(end: &mut [u8; 538], out: &mut [u8], values: &mut [usize; 1]) -> u32
     ensures number { result ≡ number (master_take end.old (length out.old)).answer }
     ensures end { end.new ≡ (master_take end.old (length out.old)).end }
     ensures out { out.new ≡ master_take_out end.old out.old }
@@ -62,8 +55,7 @@ pub extern "C" fn bitbus_master_take(
 }
 
 // Gives the next order: 30, 17, 11.
-#[unsafe(no_mangle)]
-pub extern "C" fn bitbus_master_order(
+pub fn bitbus_master_order(
     end: &mut [u8; 538],
     tick: u32,
     out: &mut [u8],
@@ -85,8 +77,7 @@ pub extern "C" fn bitbus_master_order(
 }
 
 // Takes the response to the order: 30, 16, 9, 10, 12.
-#[unsafe(no_mangle)]
-pub extern "C" fn bitbus_master_response(
+pub fn bitbus_master_response(
     end: &mut [u8; 538],
     tick: u32,
     address: u8,
@@ -110,8 +101,7 @@ pub extern "C" fn bitbus_master_response(
 }
 
 // No response came: 30, 16.
-#[unsafe(no_mangle)]
-pub extern "C" fn bitbus_master_silence(end: &mut [u8; 538]) -> u32
+pub fn bitbus_master_silence(end: &mut [u8; 538]) -> u32
     ensures number { result ≡ number (master_silence end.old).answer }
     ensures end { end.new ≡ (master_silence end.old).end }
 {
@@ -126,8 +116,7 @@ pub extern "C" fn bitbus_master_silence(end: &mut [u8; 538]) -> u32
 }
 
 // Makes the master fresh but for its slots, its marks, its address and its limit: 30.
-#[unsafe(no_mangle)]
-pub extern "C" fn bitbus_master_restart(end: &mut [u8; 538]) -> u32
+pub fn bitbus_master_restart(end: &mut [u8; 538]) -> u32
     ensures number { result ≡ number (master_restart end.old).answer }
     ensures end { end.new ≡ (master_restart end.old).end }
 {
@@ -142,8 +131,7 @@ pub extern "C" fn bitbus_master_restart(end: &mut [u8; 538]) -> u32
 }
 
 // Clears the mark for messages in doubt: 30.
-#[unsafe(no_mangle)]
-pub extern "C" fn bitbus_master_clear(end: &mut [u8; 538]) -> u32
+pub fn bitbus_master_clear(end: &mut [u8; 538]) -> u32
     ensures number { result ≡ number (master_clear end.old).answer }
     ensures end { end.new ≡ (master_clear end.old).end }
 {

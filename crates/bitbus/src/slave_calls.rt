@@ -12,8 +12,7 @@ use slave::step::{SlaveStep, StepAnswer};
 use slave::{Slave, SlaveDone, SlaveTake};
 
 // Makes a fresh slave: 8.
-#[unsafe(no_mangle)]
-pub extern "C" fn bitbus_slave_make(end: &mut [u8; 528], address: u8) -> u32
+pub fn bitbus_slave_make(end: &mut [u8; 528], address: u8) -> u32
     ensures number { result ≡ number (slave_make end.old address).answer }
     ensures end { end.new ≡ (slave_make end.old address).end }
 {
@@ -22,8 +21,7 @@ pub extern "C" fn bitbus_slave_make(end: &mut [u8; 528], address: u8) -> u32
 }
 
 // Makes the message the held one, unsent: 30, 10, 12, 13.
-#[unsafe(no_mangle)]
-pub extern "C" fn bitbus_slave_put(end: &mut [u8; 528], message: &[u8]) -> u32
+pub fn bitbus_slave_put(end: &mut [u8; 528], message: &[u8]) -> u32
     ensures number { result ≡ number (slave_put end.old message.now).answer }
     ensures end { end.new ≡ (slave_put end.old message.now).end }
 {
@@ -38,12 +36,7 @@ pub extern "C" fn bitbus_slave_put(end: &mut [u8; 528], message: &[u8]) -> u32
 }
 
 // Writes the waiting message to the lent output and gives its size: 30, 14, 11.
-#[unsafe(no_mangle)]
-pub extern "C" fn bitbus_slave_take(
-    end: &mut [u8; 528],
-    out: &mut [u8],
-    values: &mut [usize; 1],
-) -> u32
+pub fn bitbus_slave_take(end: &mut [u8; 528], out: &mut [u8], values: &mut [usize; 1]) -> u32
     ensures number { result ≡ number (slave_take end.old (length out.old)).answer }
     ensures end { end.new ≡ (slave_take end.old (length out.old)).end }
     ensures out { out.new ≡ slave_take_out end.old out.old }
@@ -60,8 +53,7 @@ pub extern "C" fn bitbus_slave_take(
 }
 
 // Answers an order: 30, 11, 9, 10, 12, 19.
-#[unsafe(no_mangle)]
-pub extern "C" fn bitbus_slave_step(
+pub fn bitbus_slave_step(
     end: &mut [u8; 528],
     address: u8,
     control: u8,
@@ -86,8 +78,7 @@ pub extern "C" fn bitbus_slave_step(
 }
 
 // Makes the slave fresh but for its slots, its marks and its address: 30.
-#[unsafe(no_mangle)]
-pub extern "C" fn bitbus_slave_restart(end: &mut [u8; 528]) -> u32
+pub fn bitbus_slave_restart(end: &mut [u8; 528]) -> u32
     ensures number { result ≡ number (slave_restart end.old).answer }
     ensures end { end.new ≡ (slave_restart end.old).end }
 {
@@ -102,8 +93,7 @@ pub extern "C" fn bitbus_slave_restart(end: &mut [u8; 528]) -> u32
 }
 
 // Clears the mark for messages in doubt: 30.
-#[unsafe(no_mangle)]
-pub extern "C" fn bitbus_slave_clear(end: &mut [u8; 528]) -> u32
+pub fn bitbus_slave_clear(end: &mut [u8; 528]) -> u32
     ensures number { result ≡ number (slave_clear end.old).answer }
     ensures end { end.new ≡ (slave_clear end.old).end }
 {

@@ -18,16 +18,14 @@ use reader::Reading;
 use writer::Written;
 
 // The check word over bytes.
-#[unsafe(no_mangle)]
-pub extern "C" fn bitbus_check_word(bytes: &[u8]) -> u16
+pub fn bitbus_check_word(bytes: &[u8]) -> u16
     ensures { result ≡ check_word bytes.now }
 {
     check::check_word(bytes)
 }
 
 // The message check: 10, 12.
-#[unsafe(no_mangle)]
-pub extern "C" fn bitbus_message_check(message: &[u8]) -> u32
+pub fn bitbus_message_check(message: &[u8]) -> u32
     ensures { result ≡ number (check_of message.now) }
 {
     let checked = message::check(message);
@@ -38,8 +36,7 @@ pub extern "C" fn bitbus_message_check(message: &[u8]) -> u32
 }
 
 // Writes a frame as line bits: 8, 9, 10, 12, 11.
-#[unsafe(no_mangle)]
-pub extern "C" fn bitbus_write(
+pub fn bitbus_write(
     address: u8,
     control: u8,
     information: &[u8],
@@ -69,13 +66,7 @@ fn finish_write(wrote: Written, values: &mut [usize; 2]) -> u32
 }
 
 // Reads a frame out of line bits: 2, 1, 3, 4, 5, 6, 7, 8, 9, 10, 12, 11.
-#[unsafe(no_mangle)]
-pub extern "C" fn bitbus_read(
-    buffer: &[u8],
-    bits: usize,
-    out: &mut [u8],
-    values: &mut [usize; 3],
-) -> u32
+pub fn bitbus_read(buffer: &[u8], bits: usize, out: &mut [u8], values: &mut [usize; 3]) -> u32
     ensures number { result ≡ number (told (read_of buffer.now bits (length out.old))) }
     ensures out { out.new ≡ out_after (read_of buffer.now bits (length out.old)) out.old }
     ensures values { values.new ≡ after read_values (told (read_of buffer.now bits (length out.old))) values.old }
@@ -99,8 +90,7 @@ fn finish_read(reading: Reading, values: &mut [usize; 3]) -> u32
 }
 
 // NRZI from bits to levels: 2, 11.
-#[unsafe(no_mangle)]
-pub extern "C" fn bitbus_nrzi_encode(
+pub fn bitbus_nrzi_encode(
     level: bool,
     input: &[u8],
     bits: usize,
@@ -116,8 +106,7 @@ pub extern "C" fn bitbus_nrzi_encode(
 }
 
 // NRZI from levels to bits: 2, 11.
-#[unsafe(no_mangle)]
-pub extern "C" fn bitbus_nrzi_decode(
+pub fn bitbus_nrzi_decode(
     level: bool,
     input: &[u8],
     bits: usize,

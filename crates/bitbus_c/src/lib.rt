@@ -1,0 +1,7 @@
+// The static library for C: the exported functions that include/bitbus.h declares, over the library `bitbus`.
+#![tactic(auto)]
+
+mod captures;
+mod master_calls;
+mod slave_calls;
+mod wire;
