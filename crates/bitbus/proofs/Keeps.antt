@@ -22,7 +22,7 @@ use Rattle.slave.specs.Step.{step_of}
 use Rattle.slave.specs.declared.Slave.{Slave}
 use Rattle.slave.proofs.Keeps.{keeps as slave, parts as slave-parts}
 use Rattle.slave.proofs.Slots.{slave_put_lem, slave-take, slave-step, slave_restart_lem, slave_clear_lem}
-use Rattle.master.specs.Master.{master_wrong as masterEndWrong, limit_refusal, limit_wrong, outer_wrong, begun as masterBegun, make_refusal, make_of as masterMakeOf, put_of as masterPutOf, take_of as masterTakeOf, restart_of as masterRestartOf, clear_of as masterClearOf}
+use Rattle.master.specs.Master.{master_wrong as master_end_wrong, limit_refusal, limit_wrong, outer_wrong, begun as master_begun, make_refusal, make_of as master_make_of, put_of as master_put_of, take_of as master_take_of, restart_of as master_restart_of, clear_of as master_clear_of}
 use Rattle.master.specs.Order.{order_of}
 use Rattle.master.specs.Response.{response_of, silence_of}
 use Rattle.master.specs.declared.Master.{Master}
@@ -119,7 +119,7 @@ limit_small a l e =
     let small = limit_fits l (limit_right l (then_zero (address_wrong a) (limit_wrong l) e).1) in
     omega arith
 
-master_bytes_lem : (m : Master) → Fits m → masterEndWrong m ≡ 0 → RightMaster (master_bytes m)
+master_bytes_lem : (m : Master) → Fits m → master_end_wrong m ≡ 0 → RightMaster (master_bytes m)
 master_bytes_lem m h r =
     let p = master-parts m r in
     let back = read_back.master m (typed m.side h.slots p.1) h.tick (limit_small m.address m.limit p.0) in
@@ -127,7 +127,7 @@ master_bytes_lem m h r =
 
 on_master_lem : {A : Type 0} (b : List ℕ) (call : Master → Given A Master) → RightMaster b
     → (Fits (master_at b) → Fits (call (master_at b)).end)
-    → (masterEndWrong (master_at b) ≡ 0 → masterEndWrong (call (master_at b)).end ≡ 0)
+    → (master_end_wrong (master_at b) ≡ 0 → master_end_wrong (call (master_at b)).end ≡ 0)
     → RightMaster (on_master b call).end
 on_master_lem {A} b call r fits right =
     let size = r.size in
@@ -136,10 +136,10 @@ on_master_lem {A} b call r fits right =
     r
 
 master_make_lem : (b : List ℕ) (a l : ℕ) → make_refusal a l ≡ 0 → RightMaster (master_make b a l).end
-unfolding master_make masterMakeOf
+unfolding master_make master_make_of
 master_make_lem b a l e =
     let t = eq-eqb (make_refusal a l) 0 e in
-    rw t (master_bytes_lem (masterBegun fresh l a) (record { slots = fresh_arrays; tick = omega arith }) (rw t at (master.make a l e)))
+    rw t (master_bytes_lem (master_begun fresh l a) (record { slots = fresh_arrays; tick = omega arith }) (rw t at (master.make a l e)))
 
 pub keeps : Keeps
 unfolding slave_put slave_take slave_step slave_restart slave_clear master_put master_take master_order master_response master_silence master_restart master_clear
@@ -153,14 +153,14 @@ keeps =
       slave_restart = λ b r. on_slave_lem b restart_of r (slave_restart_lem (slave_at b)) (slave.restart (slave_at b));
       slave_clear = λ b r. on_slave_lem b clear_of r (slave_clear_lem (slave_at b)) (slave.clear (slave_at b));
       master_make = master_make_lem;
-      master_put = λ b m r. on_master_lem b (λ (s : Master). masterPutOf s m) r (master_put_lem (master_at b) m (lays_size m)) (master.put (master_at b) m);
-      master_take = λ b n r. on_master_lem b (λ (s : Master). masterTakeOf s n) r (master-take (master_at b) n) (master.take (master_at b) n);
+      master_put = λ b m r. on_master_lem b (λ (s : Master). master_put_of s m) r (master_put_lem (master_at b) m (lays_size m)) (master.put (master_at b) m);
+      master_take = λ b n r. on_master_lem b (λ (s : Master). master_take_of s n) r (master-take (master_at b) n) (master.take (master_at b) n);
       master_order = λ b t n h r. on_master_lem b (λ (s : Master). order_of s t n) r (master-order (master_at b) t n h) (master.order (master_at b) t n);
       master_response = λ b t a c m r.
           on_master_lem b (λ (s : Master). response_of s a (meaning_of c) m t) r
           (master_response_lem (master_at b) a (meaning_of c) m t (lays_size m))
           (master.response (master_at b) a (meaning_of c) m t);
       master_silence = λ b r. on_master_lem b silence_of r (master-silence (master_at b)) (master.silence (master_at b));
-      master_restart = λ b r. on_master_lem b masterRestartOf r (master_restart_lem (master_at b) (omega arith)) (master.restart (master_at b));
-      master_clear = λ b r. on_master_lem b masterClearOf r (master_clear_lem (master_at b)) (master.clear (master_at b));
+      master_restart = λ b r. on_master_lem b master_restart_of r (master_restart_lem (master_at b) (omega arith)) (master.restart (master_at b));
+      master_clear = λ b r. on_master_lem b master_clear_of r (master_clear_lem (master_at b)) (master.clear (master_at b));
     }

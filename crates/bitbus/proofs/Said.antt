@@ -32,7 +32,7 @@ use Rattle.slave.specs.declared.Mode.{Mode}
 use Rattle.slave.specs.declared.Mode.TheVariants.{Ndm, Nrm}
 use Rattle.slave.specs.declared.Slave.{Slave}
 use Rattle.slave.proofs.Keeps.{passed, parts as slave-parts}
-use Rattle.master.specs.Master.{master_wrong as masterEndWrong}
+use Rattle.master.specs.Master.{master_wrong as master_end_wrong}
 use Rattle.master.specs.Order.{may_inform, in_linked, orders_in, orders, order_refusal, order_of}
 use Rattle.master.specs.declared.Mode.{Mode as MasterMode}
 use Rattle.master.specs.declared.Mode.TheVariants.{Disconnecting, Connecting, Linked}
@@ -126,7 +126,7 @@ order-said : (m : Master) (tick room : ℕ) (l : Line) → (order_of m tick room
 unfolding order_of orders order_refusal
 order-said m tick room l h =
     let p = refusing_gives (order_refusal m room) m _ l h in
-    let right = (then_zero (masterEndWrong m) _ p.0).0 in
+    let right = (then_zero (master_end_wrong m) _ p.0).0 in
     rw (← same _ l p.1) (orders-said m.mode m tick (master-parts m right).1)
 
 pub said : Said

@@ -5,8 +5,8 @@ use Rattle.frame.specs.Control.{decode_of}
 use Rattle.frame.specs.Refusal.{address_refusal}
 use Rattle.side.specs.declared.answer.Line.{Line}
 use Rattle.side.specs.declared.answer.News.{News}
-use Rattle.slave.specs.Slave.{slave_wrong as slaveEndWrong}
-use Rattle.master.specs.Master.{master_wrong as masterEndWrong, make_refusal}
+use Rattle.slave.specs.Slave.{slave_wrong as slave_end_wrong}
+use Rattle.master.specs.Master.{master_wrong as master_end_wrong, make_refusal}
 use Rattle.layout.specs.SlaveLayout.{slave_at, slave_wrong}
 use Rattle.layout.specs.MasterLayout.{master_at, master_wrong}
 use Rattle.layout.specs.Control.{control_of}
@@ -17,14 +17,14 @@ use Rattle.bitbus.specs.MasterCalls.{master_make, master_put, master_take, maste
 pub record RightSlave (b : List ℕ) : Type 0 where
   pub size : length b ≡ 528
   pub layout : slave_wrong b ≡ 0
-  pub end : slaveEndWrong (slave_at b) ≡ 0
+  pub end : slave_end_wrong (slave_at b) ≡ 0
 
 -- the same of a master, whose tick is one of 32 bits, as it is in any four bytes
 pub record RightMaster (b : List ℕ) : Type 0 where
   pub size : length b ≡ 538
   pub layout : master_wrong b ≡ 0
   pub tick : (master_at b).tick < 2 ^ 32
-  pub end : masterEndWrong (master_at b) ≡ 0
+  pub end : master_end_wrong (master_at b) ≡ 0
 
 -- an accepted making gives right bytes, and right bytes stay right in every call with any arguments: an end that these calls alone have made and changed is never refused by 30
 pub record Keeps : Type 0 where

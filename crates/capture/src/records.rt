@@ -1,6 +1,6 @@
 // One record of a capture: what it is and where the next begins, or the refusal.
 ghost use Rattle.std.specs.Prelude.{◌≡◌, ◌+◌, ◌^◌, ◌<◌, ◌≤◌, length};
-ghost use Rattle.frame.specs.Control.{decoded as decodedAs};
+ghost use Rattle.frame.specs.Control.{decoded as decoded_as};
 ghost use Rattle.frame.specs.Answer.{gives};
 ghost use Rattle.capture.specs.Record.{found, judged, record_at, record_of, form_refusal, kind_refusal, pair_at, frame_in, with_control, with_information, framed, entry, way_of};
 
@@ -151,7 +151,7 @@ fn judge(body: &[u8]) -> Judged
 }
 
 fn with_control(address: u8, control: Decoded, information: &[u8]) -> Judged
-    ensures { judged result ≡ with_control address (decodedAs control) information.now }
+    ensures { judged result ≡ with_control address (decoded_as control) information.now }
 {
     match control {
         Decoded::Known(meaning) => with_information(address, meaning, information),

@@ -4,14 +4,14 @@ use mathlib.Core.Path.{◌≡◌, refl, sym, ◌∙◌}
 use mathlib.Core.Logic.{◌⊎◌, inl, inr, ⊎_elim}
 use mathlib.Core.Bool.{false, not}
 use mathlib.Core.List.{List, [], ◌∷◌, ◌++◌}
-use Rattle.delivery.specs.Link.{Message, Frame, I, RR, RNR, sent, End, Rules, Call, holds, is_rnr, mayI}
+use Rattle.delivery.specs.Link.{Message, Frame, I, RR, RNR, sent, End, Rules, Call, holds, is_rnr, may_i}
 use Rattle.delivery.specs.Runs.{Line, quiet, asks, answers, World, Event, master_called, slave_called, run}
 use Rattle.delivery.specs.Exchanges.{Turn, ends, Under, uncounted, begun, wholes}
 use Rattle.delivery.specs.Liveness.{Room, MasterRoom, SlaveRoom, Two, Next}
 use Rattle.delivery.proofs.Way.{Carries}
 use Rattle.delivery.proofs.Safe.{Inv, ordering, answering, concluding, SlaveTook, MasterTook, Handled, by_event}
 use Rattle.delivery.proofs.Honest.{mark_holds}
-use Rattle.delivery.proofs.Stages.{Began, FirstAfter, SecondAfter, first_run, grown, next_longer, call_holds, call_room, room-full, says_no_RNR, Brings, says_brings, still_over, confirmed_or_held}
+use Rattle.delivery.proofs.Stages.{Began, FirstAfter, SecondAfter, first_run, grown, next_longer, call_holds, call_room, room-full, says_no_rnr, Brings, says_brings, still_over, confirmed_or_held}
 
 -- A response on the line does not mark the slave busy.
 abbrev pub Unbusy : Line → Type 0
@@ -65,7 +65,7 @@ module _ (r : Rules) (c : List Message) (m : Message) where
     holding_calls k = record { held = call_holds k w.master.end m z.held; log = z.log }
 
     holding_orders : Holding (ordering r w)
-    holding_orders = record { held = mark_holds (mayI r w.master) w.master.end.held ∙ z.held; log = z.log }
+    holding_orders = record { held = mark_holds (may_i r w.master) w.master.end.held ∙ z.held; log = z.log }
 
     -- The slave answers: what is over stays so; where it has room, m is over then, or there is room still and the response is not RNR.
     over-answers : (f : Frame) (e : End) (h x : List Message) → SlaveTook r w f e h x → Over w → Over (answering r w f e h x)
@@ -76,7 +76,7 @@ module _ (r : Rules) (c : List Message) (m : Message) where
         SlaveRoom r v × Unbusy v.line
     status-answers f e h x p y =
         let y' : Room r e = rw p y in
-        (y', rw (room-full r e y') (says_no_RNR (not (is_rnr f)) e.ns e.nr e.held))
+        (y', rw (room-full r e y') (says_no_rnr (not (is_rnr f)) e.ns e.nr e.held))
 
     room-answers : (f : Frame) → Carries w.master.end f → (e : End) (h x : List Message) → SlaveTook r w f e h x → SlaveRoom r w
         → let v = answering r w f e h x in

@@ -5,8 +5,8 @@ use mathlib.Core.Path.{◌≡◌, refl}
 use mathlib.Core.Bool.{false}
 use mathlib.Core.List.{List, [], ◌∷◌, ◌++◌, map}
 use lib.ListN.{length}
-use Rattle.delivery.specs.Link.{Message, RR, RNR, none, End, SlaveMode, NDM, NRM, MasterMode, disconnecting, linked, Rules, holds, put, take, confirmsNothing, confirms, astray, ack, new, duplicate, strange, seen}
-use Rattle.delivery.specs.Runs.{quiet, answers, blank, World, Event, masterOwner, slaveOwner, order, arrives, lost, hears, silent, run, nothing, Start}
+use Rattle.delivery.specs.Link.{Message, RR, RNR, none, End, SlaveMode, NDM, NRM, MasterMode, disconnecting, linked, Rules, holds, put, take, confirms_nothing, confirms, astray, ack, new, duplicate, strange, seen}
+use Rattle.delivery.specs.Runs.{quiet, answers, blank, World, Event, master_owner, slave_owner, order, arrives, lost, hears, silent, run, nothing, Start}
 use Rattle.delivery.specs.Exchanges.{uncounted, wholes}
 
 -- 01 as it stands: one incoming message, and Nr one ahead confirms whatever is held.
@@ -22,7 +22,7 @@ P9 = refl
 
 -- "P10: own Ns 7: Nr 7 confirms nothing, 0 confirms, 1 to 6 irrecoverable."
 pub P10 : map (ack base (counts 7 0)) (0 ∷ 1 ∷ 2 ∷ 3 ∷ 4 ∷ 5 ∷ 6 ∷ 7 ∷ [])
-    ≡ confirms ∷ astray ∷ astray ∷ astray ∷ astray ∷ astray ∷ astray ∷ confirmsNothing ∷ []
+    ≡ confirms ∷ astray ∷ astray ∷ astray ∷ astray ∷ astray ∷ astray ∷ confirms_nothing ∷ []
 P10 = refl
 
 abbrev both : MasterMode → SlaveMode → World
@@ -71,21 +71,21 @@ k = 0x07 ∷ 0x00 ∷ 0x05 ∷ 0x31 ∷ 0x02 ∷ []
 
 -- "Order arrives, response lost, slave's owner takes the message, whole exchange: duplicate dropped, RR with Nr 1, one handing over."
 abbrev repeated : World
-repeated = run base start (masterOwner (put m) ∷ order ∷ arrives ∷ lost ∷ silent ∷ slaveOwner take ∷ order ∷ arrives ∷ [])
+repeated = run base start (master_owner (put m) ∷ order ∷ arrives ∷ lost ∷ silent ∷ slave_owner take ∷ order ∷ arrives ∷ [])
 
 pub duplicate_dropped : (repeated.line ≡ answers (RR 1)) × ((run base repeated (hears ∷ [])).down ≡ record { put = m ∷ []; confirmed = m ∷ []; handed = m ∷ []; taken = m ∷ [] })
 duplicate_dropped = (refl, refl)
 
 -- "New message into an empty slot, none held: answer RNR with Nr one higher, which confirms."
 abbrev taken : World
-taken = run base start (masterOwner (put m) ∷ order ∷ arrives ∷ [])
+taken = run base start (master_owner (put m) ∷ order ∷ arrives ∷ [])
 
 pub new_confirmed : (taken.line ≡ answers (RNR 1)) × ((run base taken (hears ∷ [])).down.confirmed ≡ m ∷ [])
 new_confirmed = (refl, refl)
 
 -- One exchange is not enough, down: the slave's RNR after k has marked it busy, and the one exchange only clears the mark.
 abbrev busy : World
-busy = run base start (masterOwner (put k) ∷ whole ++ (slaveOwner take ∷ masterOwner (put m) ∷ []))
+busy = run base start (master_owner (put k) ∷ whole ++ (slave_owner take ∷ master_owner (put m) ∷ []))
 
 pub one_not_enough_down : let v = run base busy whole in
     (wholes base uncounted busy whole ≡ busy ∷ [])
@@ -98,7 +98,7 @@ one_not_enough_down = (refl, refl, refl, refl, refl, refl)
 
 -- One exchange is not enough, up: it hands the message over, and the next order confirms it.
 abbrev held : World
-held = run base start (slaveOwner (put m) ∷ [])
+held = run base start (slave_owner (put m) ∷ [])
 
 pub one_not_enough_up : let v = run base held whole in
     (wholes base uncounted held whole ≡ held ∷ []) × (v.up.handed ≡ m ∷ []) × (v.up.confirmed ≡ []) × ((run base v whole).up.confirmed ≡ m ∷ [])
@@ -110,21 +110,21 @@ waiting w = length w.master.end.incoming ∷ length w.slave.end.incoming ∷ []
 
 -- Down, no room at the slave as the first begins: k still waits there, and is taken between the two.
 abbrev slave_full : List Event
-slave_full = whole ++ (slaveOwner take ∷ whole)
+slave_full = whole ++ (slave_owner take ∷ whole)
 
-pub slave_room_needed : let w = run base start (masterOwner (put k) ∷ whole ++ (masterOwner (put m) ∷ [])) in
+pub slave_room_needed : let w = run base start (master_owner (put k) ∷ whole ++ (master_owner (put m) ∷ [])) in
     (map waiting (wholes base uncounted w slave_full) ≡ (0 ∷ 1 ∷ []) ∷ (0 ∷ 0 ∷ []) ∷ []) × ((run base w slave_full).down.handed ≡ k ∷ [])
 slave_room_needed = (refl, refl)
 
 -- Down, no room at the master as the second begins: the response of the first has brought k up.
-pub master_room_needed : let w = run base busy (slaveOwner (put k) ∷ []) in
+pub master_room_needed : let w = run base busy (slave_owner (put k) ∷ []) in
     (map waiting (wholes base uncounted w (whole ++ whole)) ≡ (0 ∷ 0 ∷ []) ∷ (1 ∷ 0 ∷ []) ∷ []) × ((run base w (whole ++ whole)).down.handed ≡ k ∷ [])
 master_room_needed = (refl, refl)
 
 -- Up, no room at the master as the first begins: k still waits there, and is taken between the two.
 abbrev master_full : List Event
-master_full = whole ++ (masterOwner take ∷ whole)
+master_full = whole ++ (master_owner take ∷ whole)
 
-pub master_room_needed_up : let w = run base start (slaveOwner (put k) ∷ whole ++ whole ++ (slaveOwner (put m) ∷ [])) in
+pub master_room_needed_up : let w = run base start (slave_owner (put k) ∷ whole ++ whole ++ (slave_owner (put m) ∷ [])) in
     (map waiting (wholes base uncounted w master_full) ≡ (1 ∷ 0 ∷ []) ∷ (0 ∷ 0 ∷ []) ∷ []) × ((run base w master_full).up.confirmed ≡ k ∷ [])
 master_room_needed_up = (refl, refl)

@@ -4,7 +4,7 @@ use Prim.Native.Nat.{ℕ}
 use mathlib.Core.Path.{◌≡◌, refl, sym, ◌∙◌, ap}
 use mathlib.Core.Bool.{Bool, true, false, not}
 use mathlib.Core.List.{List, [], ◌∷◌, ◌++◌, tail, append-nil, append_assoc}
-use Rattle.delivery.specs.Link.{Message, Frame, I, RR, RNR, SNRM, DISC, UA, FRMR, Held, none, unsent, sent, End, Rules, holds, Call, put, take, clear, put_held, called, accepted, put_by, oldest, taken_by, Ack, confirmsNothing, confirms, astray, ack, Seen, new, duplicate, strange, seen, Heard, irrecoverable, heard, released, on_nr, on_new, full, onNs, on_i, count_rule, mark_sent, said, is_rnr, mayI}
+use Rattle.delivery.specs.Link.{Message, Frame, I, RR, RNR, SNRM, DISC, UA, FRMR, Held, none, unsent, sent, End, Rules, holds, Call, put, take, clear, put_held, called, accepted, put_by, oldest, taken_by, Ack, confirms_nothing, confirms, astray, ack, Seen, new, duplicate, strange, seen, Heard, irrecoverable, heard, released, on_nr, on_new, full, on_ns, on_i, count_rule, mark_sent, said, is_rnr, may_i}
 use Rattle.delivery.specs.Runs.{Logs, blank, log_put, log_confirmed, log_handed, log_taken, World, Event, step, run}
 use Rattle.delivery.specs.Honesty.{Balanced, Honest, Honesty}
 use Rattle.delivery.proofs.Safe.{Inv, Handled, by_event, inv_step, inv_start}
@@ -53,7 +53,7 @@ Sounds e (heard e' h c) = Sound e e' h c
 
 module _ (e : End) where
   sound_nr : (a : Ack) → Sounds e (on_nr e a)
-  sound_nr confirmsNothing = record { incoming = sym (append-nil e.incoming); held = refl }
+  sound_nr confirms_nothing = record { incoming = sym (append-nil e.incoming); held = refl }
   sound_nr confirms = record { incoming = sym (append-nil e.incoming); held = sym (append-nil (holds e.held)) }
   sound_nr astray = tt
 
@@ -63,13 +63,13 @@ module _ (e : End) where
   sound_new m e' c p q false = record { incoming = ap (λ (l : List Message). l ++ (m ∷ [])) p; held = q }
 
   sound_ns : (r : Rules) (m : Message) (e' : End) (c : List Message) → e'.incoming ≡ e.incoming → holds e.held ≡ c ++ holds e'.held
-      → (s : Seen) → Sounds e (onNs r m e' c s)
+      → (s : Seen) → Sounds e (on_ns r m e' c s)
   sound_ns r m e' c p q new = sound_new m e' c p q (full r e')
   sound_ns r m e' c p q duplicate = record { incoming = p ∙ sym (append-nil e.incoming); held = q }
   sound_ns r m e' c p q strange = tt
 
   sound_i : (r : Rules) (n : ℕ) (m : Message) (a : Ack) → Sounds e (on_i r n m (on_nr e a))
-  sound_i r n m confirmsNothing = sound_ns r m e [] refl refl (seen e n)
+  sound_i r n m confirms_nothing = sound_ns r m e [] refl refl (seen e n)
   sound_i r n m confirms =
       let e' = released e in
       sound_ns r m e' (holds e.held) refl (sym (append-nil (holds e.held))) (seen e' n)
@@ -111,7 +111,7 @@ honest_handled r start w k =
       same = k;
       master_calls = λ c. record { down = sender_calls k.down c; up = receiver_calls k.up c };
       slave_calls = λ c. record { down = receiver_calls k.down c; up = sender_calls k.up c };
-      orders = record { down = sender_says k.down (mayI r w.master); up = receiver_says k.up (mayI r w.master) };
+      orders = record { down = sender_says k.down (may_i r w.master); up = receiver_says k.up (may_i r w.master) };
       arrives = λ f l t e h c p g.
           let s : Sound w.slave.end e h c = rw p at (sound w.slave.end r f) in
           let may = not (is_rnr f) in

@@ -4,8 +4,8 @@ use mathlib.Core.Path.{◌≡◌, refl}
 use mathlib.Core.Logic.{inl, inr}
 use mathlib.Core.Bool.{Bool, true, false, cond, not, ◌&&◌}
 use mathlib.Core.List.{List, [], ◌∷◌}
-use Rattle.delivery.specs.Link.{Message, Frame, FRMR, Held, End, NRM, linked, Rules, Call, Heard, irrecoverable, heard, full, count_rule, says, said, is_rnr, stepNRM, hear_linked, mayI, silence}
-use Rattle.delivery.specs.Runs.{Line, quiet, asks, answers, World, Event, masterOwner, slaveOwner, order, arrives, lost, hears, silent, refused, master_called, slave_called, on_line, answered, concluded, begin, arrive, conclude, step, run, Start}
+use Rattle.delivery.specs.Link.{Message, Frame, FRMR, Held, End, NRM, linked, Rules, Call, Heard, irrecoverable, heard, full, count_rule, says, said, is_rnr, step_nrm, hear_linked, may_i, silence}
+use Rattle.delivery.specs.Runs.{Line, quiet, asks, answers, World, Event, master_owner, slave_owner, order, arrives, lost, hears, silent, refused, master_called, slave_called, on_line, answered, concluded, begin, arrive, conclude, step, run, Start}
 use Rattle.delivery.specs.Safety.{Lined, Safe, Safety}
 use Rattle.delivery.specs.Exchanges.{Turn, begins, ends, neither, is_response, turn}
 use Rattle.delivery.proofs.Way.{Due, level, over, Way, Carries, Kept, called-kept, said-kept, kept_from, kept_to, kept_carries, says_carries, Took, Good, heard_good}
@@ -29,11 +29,11 @@ ordering r w =
     let m = w.master in
     on_line
     w
-    (record { mode = linked; busy = m.busy; waiting = true; end = said (mayI r m) m.end })
-    (asks (says (mayI r m) (full r m.end) m.end.ns m.end.nr m.end.held))
+    (record { mode = linked; busy = m.busy; waiting = true; end = said (may_i r m) m.end })
+    (asks (says (may_i r m) (full r m.end) m.end.ns m.end.nr m.end.held))
 
 abbrev pub answering : Rules → World → Frame → End → List Message → List Message → World
-answering r w f e h c = answered w (stepNRM r (not (is_rnr f)) w.slave.end (heard e h c))
+answering r w f e h c = answered w (step_nrm r (not (is_rnr f)) w.slave.end (heard e h c))
 
 abbrev pub concluding : World → Frame → End → List Message → List Message → World
 concluding w f e h c = concluded w (hear_linked w.master.busy w.master.end f (heard e h c))
@@ -66,7 +66,7 @@ module _ (r : Rules) (w : World) (i : Inv w) {Fact : Line → Type 0} (fact : Fa
 
   on_answer : (f : Frame) → Carries w.master.end f → Fact (asks f) → (x : Heard) → count_rule r w.slave.end f ≡ x
       → Good r w.master.end w.slave.end w.down.handed w.down.confirmed w.up.handed w.up.confirmed f x
-      → After neither (answered w (stepNRM r (not (is_rnr f)) w.slave.end x))
+      → After neither (answered w (step_nrm r (not (is_rnr f)) w.slave.end x))
   on_answer f l t irrecoverable p g = absurd g
   on_answer f l t (heard e h c) p g = k.arrives f l t e h c p g
 
@@ -90,8 +90,8 @@ module _ (r : Rules) (w : World) (i : Inv w) {Fact : Line → Type 0} (fact : Fa
       rw i.master_mode (on_conclusion f s t (count_rule r w.master.end f) refl (heard_good r _ _ _ _ _ _ i.up i.down f s))
 
   pub by_event : (e : Event) → After (turn w e) (step r w e)
-  by_event (masterOwner c) = k.master_calls c
-  by_event (slaveOwner c) = k.slave_calls c
+  by_event (master_owner c) = k.master_calls c
+  by_event (slave_owner c) = k.slave_calls c
   by_event order = on_order w.master.waiting
   by_event arrives = on_arrival w.line i.line fact
   by_event lost = k.loses
@@ -111,7 +111,7 @@ slave_travels k m (answers f) t = kept_carries k f t
 
 inv_handled : (r : Rules) (w : World) → Inv w → Handled r w (λ l. Unit {0}) (λ t v. Inv v)
 inv_handled r w i =
-    let kept = said-kept (mayI r w.master) w.master.end in
+    let kept = said-kept (may_i r w.master) w.master.end in
     record {
       same = i;
       master_calls = λ c.
@@ -137,7 +137,7 @@ inv_handled r w i =
         slave_mode = i.slave_mode;
         down = kept_from kept i.down;
         up = kept_to kept i.up;
-        line = says_carries (mayI r w.master) (full r w.master.end) w.master.end;
+        line = says_carries (may_i r w.master) (full r w.master.end) w.master.end;
       };
       arrives = λ f l t e h c p g.
           let k = said-kept (not (is_rnr f)) e in

@@ -135,11 +135,11 @@ pub room-full : (r : Rules) (e : End) → Room r e → full r e ≡ false
 room-full r e h = lt-leb _ _ h
 
 -- An end with room says no RNR; one that may send and holds m says I with m.
-pub says_no_RNR : (may : Bool) (ns nr : ℕ) (o : Held) → is_rnr (says may false ns nr o) ≡ false
-says_no_RNR false ns nr o = refl
-says_no_RNR true ns nr none = refl
-says_no_RNR true ns nr (unsent m) = refl
-says_no_RNR true ns nr (sent m) = refl
+pub says_no_rnr : (may : Bool) (ns nr : ℕ) (o : Held) → is_rnr (says may false ns nr o) ≡ false
+says_no_rnr false ns nr o = refl
+says_no_rnr true ns nr none = refl
+says_no_rnr true ns nr (unsent m) = refl
+says_no_rnr true ns nr (sent m) = refl
 
 abbrev pub Brings : Message → Frame → Type 0
 Brings m (I n k x) = x ≡ m

@@ -6,8 +6,8 @@ use mathlib.Core.Bool.{Bool, true, false, false≢true}
 use mathlib.Core.List.{List, [], ◌∷◌}
 use native.Mathlib.Omega.{arith}
 use Prim.Native.Nat.{ℕ}
-use Rattle.delivery.specs.Link.{Message, Frame, I, RR, RNR, SNRM, DISC, UA, FRMR, Held, none, unsent, sent, End, SlaveMode, NDM, NRM, Slave, MasterMode, disconnecting, connecting, linked, Master, Rules, Call, put, take, clear, put_held, called, sync_held, sync, Heard, irrecoverable, heard, count_rule, stepIn, hear_connecting, hear_linked, hearIn}
-use Rattle.delivery.specs.Runs.{Line, quiet, asks, answers, World, Event, masterOwner, slaveOwner, order, arrives, lost, hears, silent, refused, concluded, begin, arrive, conclude, step, run, Unsent, nothing, one, Zero, Start, from_here}
+use Rattle.delivery.specs.Link.{Message, Frame, I, RR, RNR, SNRM, DISC, UA, FRMR, Held, none, unsent, sent, End, SlaveMode, NDM, NRM, Slave, MasterMode, disconnecting, connecting, linked, Master, Rules, Call, put, take, clear, put_held, called, sync_held, sync, Heard, irrecoverable, heard, count_rule, step_in, hear_connecting, hear_linked, hear_in}
+use Rattle.delivery.specs.Runs.{Line, quiet, asks, answers, World, Event, master_owner, slave_owner, order, arrives, lost, hears, silent, refused, concluded, begin, arrive, conclude, step, run, Unsent, nothing, one, Zero, Start, from_here}
 use Rattle.delivery.specs.Synchronising.{Synchronising}
 
 sync_unsent : (o : Held) → Unsent (sync_held o)
@@ -50,7 +50,7 @@ no_ua : {X : Type 0} → FRMR ≡ UA → X
 no_ua p = let z : ◌≡◌ {A = ℕ} 0 1 = cc in absurd (omega arith)
 
 -- A slave that answers SNRM with UA has synchronised.
-accepts : (r : Rules) (q : SlaveMode) (e : End) → (stepIn r q e SNRM).response ≡ UA → Accepted (stepIn r q e SNRM).slave
+accepts : (r : Rules) (q : SlaveMode) (e : End) → (step_in r q e SNRM).response ≡ UA → Accepted (step_in r q e SNRM).slave
 accepts r NDM e p = record { mode = refl; end = sync-zero e }
 accepts r NRM e p = no_ua p
 
@@ -59,7 +59,7 @@ linked_ends : (b : Bool) (e : End) (f : Frame) (x : Heard) → (hear_linked b e 
 linked_ends b e f irrecoverable = refl
 linked_ends b e f (heard e' h c) = refl
 
-response_ends : (r : Rules) (q : MasterMode) (m : Master) (f : Frame) → (hearIn r q m f).master.waiting ≡ false
+response_ends : (r : Rules) (q : MasterMode) (m : Master) (f : Frame) → (hear_in r q m f).master.waiting ≡ false
 response_ends r disconnecting m (I n k x) = refl
 response_ends r disconnecting m (RR k) = refl
 response_ends r disconnecting m (RNR k) = refl
@@ -85,7 +85,7 @@ module _ (r : Rules) (w : World) (t : Tuning w) where
   tuning_arrive quiet k = t
   tuning_arrive (asks f) k = record { line = λ x y. go f (k x y) }
     where
-      go : (f : Frame) → f ≡ SNRM → (stepIn r w.slave.mode w.slave.end f).response ≡ UA → Accepted (stepIn r w.slave.mode w.slave.end f).slave
+      go : (f : Frame) → f ≡ SNRM → (step_in r w.slave.mode w.slave.end f).response ≡ UA → Accepted (step_in r w.slave.mode w.slave.end f).slave
       go f p = rw p (accepts r w.slave.mode w.slave.end)
   tuning_arrive (answers f) k = t
 
@@ -96,8 +96,8 @@ module _ (r : Rules) (w : World) (t : Tuning w) where
   tuning_conclude true (answers f) = record { line = λ x y. absurd (false≢true (sym (response_ends r w.master.mode w.master f) ∙ x)) }
 
   tuning_step : (e : Event) → Tuning (step r w e)
-  tuning_step (masterOwner k) = record { line = t.line }
-  tuning_step (slaveOwner k) = record { line = λ x y. call_waits w.slave k w.line (t.line x y) }
+  tuning_step (master_owner k) = record { line = t.line }
+  tuning_step (slave_owner k) = record { line = λ x y. call_waits w.slave k w.line (t.line x y) }
   tuning_step order = tuning_begin w.master.waiting
   tuning_step arrives = tuning_arrive w.line t.line
   tuning_step lost = record { line = λ x y. tt }

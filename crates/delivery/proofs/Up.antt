@@ -10,7 +10,7 @@ use Rattle.delivery.specs.Exchanges.{Turn, is_response, Under, uncounted, wholes
 use Rattle.delivery.specs.Liveness.{MasterRoom, Anyhow, Two, Next}
 use Rattle.delivery.proofs.Safe.{Inv, ordering, answering, concluding, SlaveTook, MasterTook, Handled, by_event}
 use Rattle.delivery.proofs.Honest.{mark_holds}
-use Rattle.delivery.proofs.Stages.{Began, FirstAfter, SecondAfter, first_run, grown, next_longer, call_holds, call_room, room-full, says_no_RNR, Brings, says_brings, still_over, confirmed_or_held}
+use Rattle.delivery.proofs.Stages.{Began, FirstAfter, SecondAfter, first_run, grown, next_longer, call_holds, call_room, room-full, says_no_rnr, Brings, says_brings, still_over, confirmed_or_held}
 
 module _ (r : Rules) (c : List Message) (m : Message) where
   abbrev pub Done : World → Type 0
@@ -52,7 +52,7 @@ module _ (r : Rules) (c : List Message) (m : Message) where
   -- A master with room orders, not by RNR.
   open_orders : (w : World) → MasterRoom r w → Open (ordering r w) (ordering r w).line
   open_orders w y =
-      let p : Asking (ordering r w).line = rw (room-full r w.master.end y) (says_no_RNR (not w.master.busy) w.master.end.ns w.master.end.nr w.master.end.held) in
+      let p : Asking (ordering r w).line = rw (room-full r w.master.end y) (says_no_rnr (not w.master.busy) w.master.end.ns w.master.end.nr w.master.end.held) in
       inr (y, p)
 
   open_calls : (w : World) (k : Call) (l : Line) → Open w l → Open (master_called w k) l

@@ -8,7 +8,7 @@ use mathlib.Core.Bool.{Bool, true, false}
 use mathlib.Core.List.{List, [], ◌∷◌, ◌++◌, append-nil}
 use lib.ListN.{length, length-append}
 use borrow.Author.Tests.{eq-eqb, ne_eqb}
-use Rattle.delivery.specs.Link.{Message, Frame, I, RR, RNR, SNRM, DISC, UA, FRMR, Held, none, unsent, sent, End, Rules, next, holds, Call, put, take, clear, called, confirms, one_ahead, ack, seen, Heard, irrecoverable, heard, released, on_nr, on_new, full, onNs, count_rule, status, says, mark_sent, said}
+use Rattle.delivery.specs.Link.{Message, Frame, I, RR, RNR, SNRM, DISC, UA, FRMR, Held, none, unsent, sent, End, Rules, next, holds, Call, put, take, clear, called, confirms, one_ahead, ack, seen, Heard, irrecoverable, heard, released, on_nr, on_new, full, on_ns, count_rule, status, says, mark_sent, said}
 
 -- The messages handed over are those confirmed, or one more, which the sender holds and has sent.
 pub data Due (o : Held) (h c : List Message) : Type 0 where
@@ -174,10 +174,10 @@ module _ (r : Rules) (a b : End) (h c h' c' : List Message) (i : Way a b h c) (o
       (record { sends = i.sends; takes = simp length-append (omega (arith, g.nr, i.takes)); due = over m s (rw q refl) })
 
   heard_i : (e : End) (cf : List Message) (n k : ℕ) (m : Message) → Acked b e h' c' cf → Carries a (I n k m)
-      → Good r a b h c h' c' (I n k m) (onNs r m e cf (seen e n))
+      → Good r a b h c h' c' (I n k m) (on_ns r m e cf (seen e n))
   heard_i e cf n k m g (x, y, s) = go i.due
     where
-      go : Due a.held h c → Good r a b h c h' c' (I n k m) (onNs r m e cf (seen e n))
+      go : Due a.held h c → Good r a b h c h' c' (I n k m) (on_ns r m e cf (seen e n))
       go (level q) =
           let z : n ≡ e.nr = x ∙ i.sends ∙ ap (λ (l : List Message). length l % 8) (sym q) ∙ sym i.takes ∙ sym g.nr in
           rw (eq-eqb _ _ z) (heard_new e cf n k m g s q (full r e) refl)

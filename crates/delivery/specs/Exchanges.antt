@@ -1,7 +1,7 @@
 -- The exchanges of a run, and which of them come through whole.
 use Rattle.std.specs.Prelude.{Bool, true, false, cond, ◌&&◌, List, [], ◌∷◌}
 use Rattle.delivery.specs.Link.{Rules}
-use Rattle.delivery.specs.Runs.{Line, quiet, asks, answers, World, Event, masterOwner, slaveOwner, order, arrives, lost, hears, silent, refused, step}
+use Rattle.delivery.specs.Runs.{Line, quiet, asks, answers, World, Event, master_owner, slave_owner, order, arrives, lost, hears, silent, refused, step}
 
 -- 01, "Late or strange responses": an exchange "begins with its order and has come through whole when the slave step answered and the master
 -- took the response in time". An order and a response that are refused do neither.
@@ -14,8 +14,8 @@ is_response (asks f) = false
 is_response (answers f) = true
 
 abbrev pub turn : World → Event → Turn
-turn w (masterOwner c) = neither
-turn w (slaveOwner c) = neither
+turn w (master_owner c) = neither
+turn w (slave_owner c) = neither
 turn w order = cond w.master.waiting neither begins
 turn w arrives = neither
 turn w lost = neither

@@ -117,7 +117,7 @@ sync e = record { ns = 0; nr = 0; held = sync_held e.held; incoming = e.incoming
 
 -- 01, "Count rule": "First Nr: equal to own Ns, nothing is confirmed; one more than own Ns, the held message if any is released ..; else irrecoverable".
 pub data Ack : Type 0 where
-  confirmsNothing confirms astray : Ack
+  confirms_nothing confirms astray : Ack
 
 -- Nr one ahead of own Ns; request 109 takes it only where the held message has been sent.
 abbrev pub one_ahead : Bool → Held → Ack
@@ -127,7 +127,7 @@ one_ahead true (unsent m) = astray
 one_ahead true (sent m) = confirms
 
 abbrev pub ack : Rules → End → ℕ → Ack
-ack r e nr = cond (eqb nr e.ns) confirmsNothing (cond (eqb nr (next e.ns)) (one_ahead r.sent_only e.held) astray)
+ack r e nr = cond (eqb nr e.ns) confirms_nothing (cond (eqb nr (next e.ns)) (one_ahead r.sent_only e.held) astray)
 
 -- 01, "Count rule": "Then for I: Ns equal to own Nr is new ..; Ns one less than own Nr is a duplicate ..; else irrecoverable".
 pub data Seen : Type 0 where
@@ -150,7 +150,7 @@ abbrev pub handed_over : Message → End → End
 handed_over m e = record { ns = e.ns; nr = next e.nr; held = e.held; incoming = e.incoming ++ (m ∷ []); doubt = e.doubt }
 
 abbrev pub on_nr : End → Ack → Heard
-on_nr e confirmsNothing = heard e [] []
+on_nr e confirms_nothing = heard e [] []
 on_nr e confirms = heard (released e) [] (holds e.held)
 on_nr e astray = irrecoverable
 
@@ -164,15 +164,15 @@ module _ (r : Rules) where
   full e = leb r.capacity (length e.incoming)
 
   -- 01, "Count rule": a duplicate "is dropped".
-  abbrev pub onNs : Message → End → List Message → Seen → Heard
-  onNs m e c new = on_new m e c (full e)
-  onNs m e c duplicate = heard e [] c
-  onNs m e c strange = irrecoverable
+  abbrev pub on_ns : Message → End → List Message → Seen → Heard
+  on_ns m e c new = on_new m e c (full e)
+  on_ns m e c duplicate = heard e [] c
+  on_ns m e c strange = irrecoverable
 
   -- 01, "Count rule": "An irrecoverable frame confirms nothing, hands over nothing and leaves every mark".
   abbrev pub on_i : ℕ → Message → Heard → Heard
   on_i ns m irrecoverable = irrecoverable
-  on_i ns m (heard e h c) = onNs m e c (seen e ns)
+  on_i ns m (heard e h c) = on_ns m e c (seen e ns)
 
   -- 01, "Count rule", for the slave in NRM and the linked master; to both any other frame is as bad as an irrecoverable one.
   abbrev pub count_rule : End → Frame → Heard
@@ -274,9 +274,9 @@ hear_linked busy e f (heard e' h c) =
 module _ (r : Rules) where
   -- 01, "Slave": "NRM: I, RR, RNR by the count rule, answered I if a message is held and the order was not RNR; else RNR if the
   -- incoming slot is now full; else RR. Irrecoverable or any other frame: FRMR and NDM. A response carries the counts as they stand after the order".
-  abbrev pub stepNRM : Bool → End → Heard → Answer
-  stepNRM may e irrecoverable = answer NDM e FRMR
-  stepNRM may e (heard e' h c) =
+  abbrev pub step_nrm : Bool → End → Heard → Answer
+  step_nrm may e irrecoverable = answer NDM e FRMR
+  step_nrm may e (heard e' h c) =
       record {
         slave = record { mode = NRM; end = said may e' };
         response = says may (full r e') e'.ns e'.nr e'.held;
@@ -284,42 +284,42 @@ module _ (r : Rules) where
         confirmed = c;
       }
 
-  abbrev pub stepIn : SlaveMode → End → Frame → Answer
-  stepIn NDM e f = step_ndm e f
-  stepIn NRM e f = stepNRM (not (is_rnr f)) e (count_rule r e f)
+  abbrev pub step_in : SlaveMode → End → Frame → Answer
+  step_in NDM e f = step_ndm e f
+  step_in NRM e f = step_nrm (not (is_rnr f)) e (count_rule r e f)
 
   abbrev pub slave_step : Slave → Frame → Answer
-  slave_step s f = stepIn s.mode s.end f
+  slave_step s f = step_in s.mode s.end f
 
   -- 01, "Master": "Linked: sends RNR if its incoming slot is full, else I if a message is held and the peer isn't marked busy, else RR".
-  abbrev pub mayI : Master → Bool
-  mayI m = not (full r m.end) && not m.busy
+  abbrev pub may_i : Master → Bool
+  may_i m = not (full r m.end) && not m.busy
 
   abbrev pub order_in : MasterMode → Master → Frame
   order_in disconnecting m = DISC
   order_in connecting m = SNRM
-  order_in linked m = says (mayI m) (full r m.end) m.end.ns m.end.nr m.end.held
+  order_in linked m = says (may_i m) (full r m.end) m.end.ns m.end.nr m.end.held
 
-  abbrev pub orderFrame : Master → Frame
-  orderFrame m = order_in m.mode m
+  abbrev pub order_frame : Master → Frame
+  order_frame m = order_in m.mode m
 
-  abbrev pub sentIn : MasterMode → Master → End
-  sentIn disconnecting m = m.end
-  sentIn connecting m = m.end
-  sentIn linked m = said (mayI m) m.end
+  abbrev pub sent_in : MasterMode → Master → End
+  sent_in disconnecting m = m.end
+  sent_in connecting m = m.end
+  sent_in linked m = said (may_i m) m.end
 
   -- 01, "Master": "An order starts the wait".
   abbrev pub ordered : Master → Master
-  ordered m = record { mode = m.mode; busy = m.busy; waiting = true; end = sentIn m.mode m }
+  ordered m = record { mode = m.mode; busy = m.busy; waiting = true; end = sent_in m.mode m }
 
-  abbrev pub hearIn : MasterMode → Master → Frame → Taken
-  hearIn disconnecting m f = hear_disconnecting m.busy m.end f
-  hearIn connecting m f = hear_connecting m.busy m.end f
-  hearIn linked m f = hear_linked m.busy m.end f (count_rule r m.end f)
+  abbrev pub hear_in : MasterMode → Master → Frame → Taken
+  hear_in disconnecting m f = hear_disconnecting m.busy m.end f
+  hear_in connecting m f = hear_connecting m.busy m.end f
+  hear_in linked m f = hear_linked m.busy m.end f (count_rule r m.end f)
 
   -- A response in time, where an order waits.
   abbrev pub response : Master → Frame → Taken
-  response m f = hearIn m.mode m f
+  response m f = hear_in m.mode m f
 
 -- 01, "Master": "silence ends it and changes nothing else"; a late response counts as silence.
 abbrev pub silence : Master → Master

@@ -1,6 +1,6 @@
 -- Two ends with the line between them, and runs of calls at any moment: what demand 3 supposes.
 use Rattle.std.specs.Prelude.{◌≡◌, Bool, true, false, List, [], ◌∷◌, ◌++◌}
-use Rattle.delivery.specs.Link.{Message, Frame, Held, none, unsent, End, NRM, Slave, linked, Master, Rules, Call, called, put_by, taken_by, Answer, Taken, slave_step, orderFrame, ordered, response, silence}
+use Rattle.delivery.specs.Link.{Message, Frame, Held, none, unsent, End, NRM, Slave, linked, Master, Rules, Call, called, put_by, taken_by, Answer, Taken, slave_step, order_frame, ordered, response, silence}
 
 -- The line: nothing on it, the order just sent, or the response to it.
 pub data Line : Type 0 where
@@ -42,7 +42,7 @@ pub record World : Type 0 where
 -- What can happen next. `arrives` is a slave step with the order on the line; `hears` a response in time; `silent` silence reported, a late
 -- response or one from elsewhere; `lost` loses what is on the line, and is a slave step refused 11 too; `refused` is any other refused call.
 pub data Event : Type 0 where
-  masterOwner slaveOwner : Call → Event
+  master_owner slave_owner : Call → Event
   order arrives lost hears silent refused : Event
 
 -- Demand 3: "Owners may put and take messages at any moment".
@@ -96,7 +96,7 @@ module _ (r : Rules) where
   -- "an order reaches the slave before the next one begins or never" (01, "Late or strange responses").
   abbrev pub begin : World → Bool → World
   begin w true = w
-  begin w false = on_line w (ordered r w.master) (asks (orderFrame r w.master))
+  begin w false = on_line w (ordered r w.master) (asks (order_frame r w.master))
 
   abbrev pub arrive : World → Line → World
   arrive w quiet = w
@@ -111,8 +111,8 @@ module _ (r : Rules) where
   conclude w true (answers f) = concluded w (response r w.master f)
 
   abbrev pub step : World → Event → World
-  step w (masterOwner c) = master_called w c
-  step w (slaveOwner c) = slave_called w c
+  step w (master_owner c) = master_called w c
+  step w (slave_owner c) = slave_called w c
   step w order = begin w w.master.waiting
   step w arrives = arrive w w.line
   step w lost = on_line w w.master quiet

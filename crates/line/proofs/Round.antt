@@ -21,7 +21,7 @@ use Rattle.frame.specs.declared.Meaning.TheVariants.{I, Rr, Rnr, Snrm, Disc, Ua,
 use Rattle.frame.proofs.Laws.{pick_cases, pick_first, pick_second, then_zero, unless_gives}
 use Rattle.frame.proofs.Bytes.{bytes_cons, bytes_append, bytes_drop}
 use Rattle.frame.proofs.ControlBytes.{count_small, decode_byte, round_trip}
-use Rattle.frame.proofs.Messages.{part as informationPart, information_few}
+use Rattle.frame.proofs.Messages.{part as information_part, information_few}
 use Rattle.bits.specs.Bits.{bits_of, bytes_of}
 use Rattle.bits.specs.Insert.{insert, remove, ending}
 use Rattle.bits.specs.Check.{check_word, check_bytes}
@@ -100,7 +100,7 @@ frame_read a control info m ha hm hi =
     let x = a ∷ control ∷ info in
     before_passes (check_refusal (x ++ check_bytes x)) _ (check_right x)
     ∙ before_passes (address_refusal a) _ ha
-    ∙ ap₂ (λ (y : Answer Meaning) (i : List ℕ). meant y a i) hm (informationPart a control info (check_word x % 256) (check_word x / 256))
+    ∙ ap₂ (λ (y : Answer Meaning) (i : List ℕ). meant y a i) hm (information_part a control info (check_word x % 256) (check_word x / 256))
     ∙ before_passes (information_refusal m info) _ hi
 
 -- ---- a content, written again

@@ -38,7 +38,7 @@ use Rattle.link.proofs.Masters.{order-frame, order-seen, hears-seen}
 
 -- what events over lists do where they are not refused
 
-begins_order : (w : lists.World) (b : Bool) → b ≡ false → lists.on_line w (link.ordered rules w.master) (lists.asks (link.orderFrame rules w.master)) ≡ lists.begin rules w b
+begins_order : (w : lists.World) (b : Bool) → b ≡ false → lists.on_line w (link.ordered rules w.master) (lists.asks (link.order_frame rules w.master)) ≡ lists.begin rules w b
 begins_order w b e = rw e
 
 begins_turn : (b : Bool) → b ≡ false → cond b neither begins ≡ begins

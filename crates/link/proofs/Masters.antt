@@ -27,7 +27,7 @@ use Rattle.link.proofs.Sides.{heard_of, full-seen, sync-seen, rule_seen, rnr_see
 
 -- the order
 
-may_seen : (m : Master) → lists.mayI rules (master_of m) ≡ may_inform m
+may_seen : (m : Master) → lists.may_i rules (master_of m) ≡ may_inform m
 unfolding may_inform
 may_seen m = rw (full-seen m.side) (go (full m.side))
   where
@@ -37,7 +37,7 @@ may_seen m = rw (full-seen m.side) (go (full m.side))
 
 -- the frame on the line: its information stands in the slot of the held message
 pub order-frame : (m : Master) (tick : ℕ)
-    → frame_of (orders m tick).line.meaning (take (orders m tick).line.size m.side.held) ≡ lists.orderFrame rules (master_of m)
+    → frame_of (orders m tick).line.meaning (take (orders m tick).line.size m.side.held) ≡ lists.order_frame rules (master_of m)
 unfolding orders in_linked
 order-frame m tick = go m.mode
   where
@@ -53,7 +53,7 @@ order-seen m tick = go m.mode
     waits : lists.End → lists.Master
     waits e = record { mode = master_mode_of m.mode; busy = m.busy; waiting = true; end = e }
 
-    go : (q : Mode) → master_of (orders_in q m tick).master ≡ waits (lists.sentIn rules (master_mode_of q) (master_of m))
+    go : (q : Mode) → master_of (orders_in q m tick).master ≡ waits (lists.sent_in rules (master_mode_of q) (master_of m))
     go Disconnecting = refl
     go Connecting = refl
     go Linked = ap waits (rw (may_seen m) (said-seen (may_inform m) m.side))
@@ -103,7 +103,7 @@ pub hears-seen : (m : Master) (f : Meaning) (k : List ℕ) → Right m.side → 
 unfolding hears hear_linked
 hears-seen m f k r e = go m.mode
   where
-    go : (q : Mode) → taken_of m (hears_in q m f k) ≡ lists.hearIn rules (master_mode_of q) (master_of m) (frame_of f k)
+    go : (q : Mode) → taken_of m (hears_in q m f k) ≡ lists.hear_in rules (master_mode_of q) (master_of m) (frame_of f k)
     go Disconnecting = disconnecting_seen m f k
     go Connecting = connecting_seen m f k r
     go Linked =

@@ -89,8 +89,8 @@ module _ (w : World) {E : Type 0} (o : Owner w E) (n : ℕ) where
       (λ z. o.calls (cleared o.side) [] [] link.clear (clear_seen o.side) refl refl)
 
 module _ (w : World) where
-  abbrev master_owner : Owner w Master
-  master_owner =
+  abbrev master_owner_lem : Owner w Master
+  master_owner_lem =
       record {
         side = w.master.side;
         on = master.on_side w.master;
@@ -103,7 +103,7 @@ module _ (w : World) where
             };
         calls =
             λ t put taken c e x y. record {
-              event = lists.masterOwner c;
+              event = lists.master_owner c;
               step =
                   λ i. record {
                     master = record { mode = over.master.mode; busy = w.master.busy; waiting = w.master.waiting; end = e i };
@@ -119,8 +119,8 @@ module _ (w : World) where
       over : lists.World
       over = over_lists w
 
-  abbrev slave_owner : Owner w Slave
-  slave_owner =
+  abbrev slave_owner_lem : Owner w Slave
+  slave_owner_lem =
       record {
         side = w.slave.side;
         on = slave.on_side w.slave;
@@ -133,7 +133,7 @@ module _ (w : World) where
             };
         calls =
             λ t put taken c e x y. record {
-              event = lists.slaveOwner c;
+              event = lists.slave_owner c;
               step =
                   λ i. record {
                     master = over.master;
@@ -151,27 +151,27 @@ module _ (w : World) where
 
   pub master_put_lem : (m : List ℕ) → Does (over_lists w) (over_lists (step w (master_put m))) neither
   unfolding master.put_of
-  master_put_lem m = put_does w master_owner (master.outer_wrong w.master.address w.master.limit) m
+  master_put_lem m = put_does w master_owner_lem (master.outer_wrong w.master.address w.master.limit) m
 
   pub slave_put_lem : (m : List ℕ) → Does (over_lists w) (over_lists (step w (slave_put m))) neither
   unfolding slave.put_of
-  slave_put_lem m = put_does w slave_owner (address_wrong w.slave.address) m
+  slave_put_lem m = put_does w slave_owner_lem (address_wrong w.slave.address) m
 
   pub master-take : (out : List ℕ) → Arrays w.master.side → Does (over_lists w) (over_lists (step w (master_take out))) neither
   unfolding master.take_of
-  master-take out a = take_does w master_owner (master.outer_wrong w.master.address w.master.limit) out a
+  master-take out a = take_does w master_owner_lem (master.outer_wrong w.master.address w.master.limit) out a
 
   pub slave-take : (out : List ℕ) → Arrays w.slave.side → Does (over_lists w) (over_lists (step w (slave_take out))) neither
   unfolding slave.take_of
-  slave-take out a = take_does w slave_owner (address_wrong w.slave.address) out a
+  slave-take out a = take_does w slave_owner_lem (address_wrong w.slave.address) out a
 
   pub master_clear_lem : Does (over_lists w) (over_lists (step w master_clear)) neither
   unfolding master.clear_of
-  master_clear_lem = clear_does w master_owner (master.master_wrong w.master)
+  master_clear_lem = clear_does w master_owner_lem (master.master_wrong w.master)
 
   pub slave_clear_lem : Does (over_lists w) (over_lists (step w slave_clear)) neither
   unfolding slave.clear_of
-  slave_clear_lem = clear_does w slave_owner (slave.slave_wrong w.slave)
+  slave_clear_lem = clear_does w slave_owner_lem (slave.slave_wrong w.slave)
 
   -- what is said to another station changes nothing: the step refuses it
   pub slave_overhears : (a : ℕ) (f : Meaning) (k out : List ℕ) → Does (over_lists w) (over_lists (step w (overhears a f k out))) neither
@@ -180,7 +180,7 @@ module _ (w : World) where
       pick_cases (λ (v : World). Does (over_lists w) (over_lists v) neither) (bears w.slave.address a) _ _
       (λ t. record { event = lists.refused; step = refl; turn = refl })
       (λ t. refusing_cases (λ (g : Given (Line × News) Slave). Does (over_lists w) (over_lists (slave_called w g.end [] [])) neither)
-      (step_refusal w.slave a f k (length out)) w.slave _ (λ n. slave_owner.refuses) (λ z. absurd (other t z)))
+      (step_refusal w.slave a f k (length out)) w.slave _ (λ n. slave_owner_lem.refuses) (λ z. absurd (other t z)))
     where
       other : bears w.slave.address a ≡ false → step_refusal w.slave a f k (length out) ≡ 0 → ⊥
       other t z =

@@ -101,8 +101,8 @@ connecting_linked q p l = let k : ◌≡◌ {A = ℕ} 0 1 = cc in absurd (omega 
 
 -- over lists nothing but a response takes the master from connecting to linked
 only_hears : (w : lists.World) (e : lists.Event) → w.master.mode ≡ link.connecting → (lists.step rules w e).master.mode ≡ link.linked → e ≡ lists.hears
-only_hears w (lists.masterOwner c) p l = connecting_linked w.master.mode p l
-only_hears w (lists.slaveOwner c) p l = connecting_linked w.master.mode p l
+only_hears w (lists.master_owner c) p l = connecting_linked w.master.mode p l
+only_hears w (lists.slave_owner c) p l = connecting_linked w.master.mode p l
 only_hears w lists.order p l = go w.master.waiting l
   where
     go : (b : Bool) → (lists.begin rules w b).master.mode ≡ link.linked → lists.order ≡ lists.hears

@@ -114,7 +114,7 @@ sync-seen s r = pick_cases (λ (x : Side). end_of x ≡ sync (end_of s)) s.sent 
 -- the count rule
 
 abbrev ack_of : Ack → lists.Ack
-ack_of ConfirmsNothing = lists.confirmsNothing
+ack_of ConfirmsNothing = lists.confirms_nothing
 ack_of Confirms = lists.confirms
 ack_of Astray = lists.astray
 
@@ -132,7 +132,7 @@ ack-seen : (s : Side) (nr : ReceiveCount) → lists.ack rules (end_of s) nr.0 �
 unfolding ack
 ack-seen s nr = go (eqb nr.0 s.ns.0) (eqb nr.0 (lists.next s.ns.0))
   where
-    go : (a b : Bool) → cond a lists.confirmsNothing (cond b lists.confirms lists.astray) ≡ ack_of (pick a ConfirmsNothing (pick b Confirms Astray))
+    go : (a b : Bool) → cond a lists.confirms_nothing (cond b lists.confirms lists.astray) ≡ ack_of (pick a ConfirmsNothing (pick b Confirms Astray))
     go true b = refl
     go false true = refl
     go false false = refl

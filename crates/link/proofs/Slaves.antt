@@ -45,7 +45,7 @@ ndm_seen s Ua m r = refl
 ndm_seen s Frmr m r = refl
 
 heard-step : (s : Slave) (f : Meaning) (m : List ℕ) (t : Side) (h : Heard) → t.held ≡ s.side.held
-    → answer_of s (on_heard s f t h) ≡ lists.stepNRM rules (not (lists.is_rnr (frame_of f m))) (end_of s.side) (heard_of s.side t h)
+    → answer_of s (on_heard s f t h) ≡ lists.step_nrm rules (not (lists.is_rnr (frame_of f m))) (end_of s.side) (heard_of s.side t h)
 unfolding responds
 heard-step s f m t Irrecoverable e = refl
 heard-step s f m t (Accepted confirmed handed) e =
@@ -68,8 +68,8 @@ pub moved-seen : (s : Slave) (f : Meaning) (m : List ℕ) → Right s.side → f
 unfolding moved in_nrm
 moved-seen s f m r e = go s.mode
   where
-    go : (q : Mode) → answer_of s (moved_in q s f m) ≡ lists.stepIn rules (slave_mode_of q) (end_of s.side) (frame_of f m)
+    go : (q : Mode) → answer_of s (moved_in q s f m) ≡ lists.step_in rules (slave_mode_of q) (end_of s.side) (frame_of f m)
     go Ndm = ndm_seen s f m r
     go Nrm =
         heard-step s f m _ (count_rule s.side f m).heard (rule_held s.side f m)
-        ∙ ap (lists.stepNRM rules (not (lists.is_rnr (frame_of f m))) (end_of s.side)) (rule_seen s.side f m e)
+        ∙ ap (lists.step_nrm rules (not (lists.is_rnr (frame_of f m))) (end_of s.side)) (rule_seen s.side f m e)

@@ -5,8 +5,8 @@ mod line;
 mod text;
 
 ghost use Rattle.std.specs.Prelude.{◌≡◌, ◌≤◌, ◌<◌, length};
-ghost use Rattle.capture.specs.Record.{found as foundAs};
-ghost use Rattle.listing.specs.Listing.{lines_of, listing as listingOf, list_of, list_bytes, listed};
+ghost use Rattle.capture.specs.Record.{found as found_as};
+ghost use Rattle.listing.specs.Listing.{lines_of, listing as listing_of, list_of, list_bytes, listed};
 ghost use Rattle.listing.specs.Put.{Put, place_after};
 
 use crate::line::put_line;
@@ -43,7 +43,7 @@ pub fn list(capture: &[u8], out: &mut [u8]) -> Listed
 }
 
 fn put_listing(capture: &[u8], out: &mut [u8]) -> usize
-    ensures { Put (listingOf capture.now) 0 out.old out.new result }
+    ensures { Put (listing_of capture.now) 0 out.old out.new result }
 {
     if MOST_CAPTURE < capture.len() {
         return put_word(out, 0, b"too long\n");
@@ -69,7 +69,7 @@ fn put_lines(capture: &[u8], out: &mut [u8], start: usize) -> usize
 }
 
 fn place_after(found: Found, last: usize) -> usize
-    ensures { result ≡ place_after (foundAs found) last }
+    ensures { result ≡ place_after (found_as found) last }
 {
     match found {
         Found::Order(_, next) => next,

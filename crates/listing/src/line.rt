@@ -1,6 +1,6 @@
 // The line of what stands at a place of a capture.
 ghost use Rattle.std.specs.Prelude.{◌∷◌, [], ◌++◌, ◌+◌, ◌<◌, length};
-ghost use Rattle.capture.specs.Record.{found as foundAs, silence};
+ghost use Rattle.capture.specs.Record.{found as found_as, silence};
 ghost use Rattle.listing.specs.Decimal.{decimal};
 ghost use Rattle.listing.specs.Listing.{frame_line, entry_line, refused_line, line_of};
 ghost use Rattle.listing.specs.Put.{Put, middle};
@@ -12,7 +12,7 @@ use frame::{Meaning, ReceiveCount, SendCount};
 
 pub(crate) fn put_line(out: &mut [u8], at: usize, number: usize, found: Found) -> usize
     requires { (at < 1000000) × (number < 100000) }
-    ensures { Put (line_of number (foundAs found)) at out.old out.new result }
+    ensures { Put (line_of number (found_as found)) at out.old out.new result }
 {
     match found {
         Found::Order(frame, _) => put_frame(out, at, number, b'>', frame),

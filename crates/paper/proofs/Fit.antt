@@ -23,7 +23,7 @@ use Rattle.writer.proofs.Writing.{write_within}
 use Rattle.line.proofs.Round.{calls_give, read_is_written}
 use Rattle.side.specs.Given.{Given, giving, refused, refusing, size_given}
 use Rattle.side.specs.Right.{address_wrong, side_wrong}
-use Rattle.side.specs.Slot.{laid, room_refusal as roomNumber}
+use Rattle.side.specs.Slot.{laid, room_refusal as room_number}
 use Rattle.side.specs.declared.answer.Line.{Line}
 use Rattle.side.specs.declared.answer.News.{News}
 use Rattle.side.proofs.Calls.{refusing_lists}
@@ -114,7 +114,7 @@ unfolding step_refusal slave_wrong
 step_right s a f k room z =
     let first = then_zero (slave_wrong s) _ z in
     let right = then_zero (address_wrong s.address) (side_wrong s.side) first.0 in
-    let lent = then_zero (roomNumber room) _ first.1 in
+    let lent = then_zero (room_number room) _ first.1 in
     (address_right s.address right.0, right.1, (then_zero (frame_refusal f k) _ lent.1).0)
 
 pub steps_fit : StepsFit
