@@ -6,6 +6,7 @@ use master::response::ResponseAnswer;
 use side::answer::{Change, Line, News, Outcome, TakeAnswer};
 use slave::Slave;
 use slave::step::StepAnswer;
+use std::io::Stdout;
 
 #[derive(Clone, Copy)]
 pub struct Pair {
@@ -22,33 +23,33 @@ pub enum Fate {
     Late,
 }
 
-pub fn show() {
-    print::text(b"exchange\n");
+pub fn show(to: Stdout) {
+    print::text(to, b"exchange\n");
     let made = Master::make(5, 100);
     let born = Slave::make(5);
     let master = made.master;
     let slave = born.slave;
     let fresh = Pair { master, slave };
-    let connecting = exchange(fresh, 0, Fate::Whole);
-    let linked = exchange(connecting, 200, Fate::Whole);
-    let down = master_puts(linked, &[7, 0, 5, 0x31, 1]);
-    let both = slave_puts(down, &[8, 0x80, 5, 0x13, 2, 9]);
-    let handed = exchange(both, 400, Fate::ResponseLost);
-    let taken = slave_takes(handed);
-    let late = exchange(taken, 600, Fate::Late);
-    let lost = exchange(late, 800, Fate::OrderLost);
-    let confirmed = exchange(lost, 1000, Fate::Whole);
-    let idle = exchange(confirmed, 1200, Fate::Whole);
-    let empty = master_takes(idle);
-    let cut = slave_restarts(empty);
-    let apart = exchange(cut, 1400, Fate::Whole);
-    let again = exchange(apart, 1600, Fate::Whole);
-    let whole = exchange(again, 1800, Fate::Whole);
-    exchange(whole, 2000, Fate::Whole);
+    let connecting = exchange(to, fresh, 0, Fate::Whole);
+    let linked = exchange(to, connecting, 200, Fate::Whole);
+    let down = master_puts(to, linked, &[7, 0, 5, 0x31, 1]);
+    let both = slave_puts(to, down, &[8, 0x80, 5, 0x13, 2, 9]);
+    let handed = exchange(to, both, 400, Fate::ResponseLost);
+    let taken = slave_takes(to, handed);
+    let late = exchange(to, taken, 600, Fate::Late);
+    let lost = exchange(to, late, 800, Fate::OrderLost);
+    let confirmed = exchange(to, lost, 1000, Fate::Whole);
+    let idle = exchange(to, confirmed, 1200, Fate::Whole);
+    let empty = master_takes(to, idle);
+    let cut = slave_restarts(to, empty);
+    let apart = exchange(to, cut, 1400, Fate::Whole);
+    let again = exchange(to, apart, 1600, Fate::Whole);
+    let whole = exchange(to, again, 1800, Fate::Whole);
+    exchange(to, whole, 2000, Fate::Whole);
 }
 
 // One exchange: the order, the slave's step, the master's response or silence.
-fn exchange(pair: Pair, tick: u32, fate: Fate) -> Pair {
+fn exchange(to: Stdout, pair: Pair, tick: u32, fate: Fate) -> Pair {
     let mut down = [0u8; 253];
     let master = pair.master;
     let slave = pair.slave;
@@ -61,23 +62,23 @@ fn exchange(pair: Pair, tick: u32, fate: Fate) -> Pair {
     };
     match answer {
         OrderAnswer::Orders(line) => {
-            print::text(b"> ");
-            sent(line, &down);
-            arrives(after, tick, fate, line, &down)
+            print::text(to, b"> ");
+            sent(to, line, &down);
+            arrives(to, after, tick, fate, line, &down)
         }
         OrderAnswer::Refused(n) => {
-            refused(n);
+            refused(to, n);
             after
         }
     }
 }
 
-fn arrives(pair: Pair, tick: u32, fate: Fate, line: Line, down: &[u8]) -> Pair {
+fn arrives(to: Stdout, pair: Pair, tick: u32, fate: Fate, line: Line, down: &[u8]) -> Pair {
     match fate {
-        Fate::Whole => answered(pair, tick, true, line, down),
-        Fate::OrderLost => silent(pair),
-        Fate::ResponseLost => unheard(pair, line, down),
-        Fate::Late => answered(pair, tick, false, line, down),
+        Fate::Whole => answered(to, pair, tick, true, line, down),
+        Fate::OrderLost => silent(to, pair),
+        Fate::ResponseLost => unheard(to, pair, line, down),
+        Fate::Late => answered(to, pair, tick, false, line, down),
     }
 }
 
@@ -88,7 +89,7 @@ struct AfterStep {
     pair: Pair,
 }
 
-fn stepped(pair: Pair, line: Line, down: &[u8], up: &mut [u8]) -> AfterStep {
+fn stepped(to: Stdout, pair: Pair, line: Line, down: &[u8], up: &mut [u8]) -> AfterStep {
     let slave = pair.slave;
     let master = pair.master;
     let address = line.address;
@@ -97,7 +98,7 @@ fn stepped(pair: Pair, line: Line, down: &[u8], up: &mut [u8]) -> AfterStep {
     let step = slave.step(address, meaning, part(down, size), up);
     let answer = step.answer;
     let after = step.slave;
-    step_shown(answer, up);
+    step_shown(to, answer, up);
     let pair = Pair {
         master,
         slave: after,
@@ -106,21 +107,27 @@ fn stepped(pair: Pair, line: Line, down: &[u8], up: &mut [u8]) -> AfterStep {
 }
 
 // The step, whose response is lost.
-fn unheard(pair: Pair, line: Line, down: &[u8]) -> Pair {
+fn unheard(to: Stdout, pair: Pair, line: Line, down: &[u8]) -> Pair {
     let mut up = [0u8; 253];
-    let step = stepped(pair, line, down, &mut up);
+    let step = stepped(to, pair, line, down, &mut up);
     let after = step.pair;
-    silent(after)
+    silent(to, after)
 }
 
 // The step, and its response in time or too late.
-fn answered(pair: Pair, tick: u32, in_time: bool, line: Line, down: &[u8]) -> Pair {
+fn answered(to: Stdout, pair: Pair, tick: u32, in_time: bool, line: Line, down: &[u8]) -> Pair {
     let mut up = [0u8; 253];
-    let step = stepped(pair, line, down, &mut up);
+    let step = stepped(to, pair, line, down, &mut up);
     let answer = step.answer;
     let after = step.pair;
     match answer {
-        StepAnswer::Responds(response, _) => heard(after, heard_at(tick, in_time), response, &up),
+        StepAnswer::Responds(response, _) => heard(
+            to,
+            after,
+            heard_at(tick, in_time),
+            response,
+            &up,
+        ),
         StepAnswer::Refused(_) => after,
     }
 }
@@ -128,12 +135,12 @@ fn answered(pair: Pair, tick: u32, in_time: bool, line: Line, down: &[u8]) -> Pa
 // The limit is 100 ticks: 99 later is in time, 100 later is late.
 fn heard_at(tick: u32, in_time: bool) -> u32 {
     if in_time {
-        return std::num::wrapping_add_u32(tick, 99);
+        return tick.wrapping_add(99);
     }
-    std::num::wrapping_add_u32(tick, 100)
+    tick.wrapping_add(100)
 }
 
-fn heard(pair: Pair, tick: u32, line: Line, up: &[u8]) -> Pair {
+fn heard(to: Stdout, pair: Pair, tick: u32, line: Line, up: &[u8]) -> Pair {
     let master = pair.master;
     let slave = pair.slave;
     let address = line.address;
@@ -142,11 +149,11 @@ fn heard(pair: Pair, tick: u32, line: Line, up: &[u8]) -> Pair {
     let heard = master.response(address, meaning, part(up, size), tick);
     let answer = heard.answer;
     let after = heard.master;
-    print::text(b"master ");
+    print::text(to, b"master ");
     match answer {
-        ResponseAnswer::Heard(news) => told(news),
-        ResponseAnswer::Silence => print::text(b"silence\n"),
-        ResponseAnswer::Refused(n) => refused(n),
+        ResponseAnswer::Heard(news) => told(to, news),
+        ResponseAnswer::Silence => print::text(to, b"silence\n"),
+        ResponseAnswer::Refused(n) => refused(to, n),
     }
     Pair {
         master: after,
@@ -154,14 +161,14 @@ fn heard(pair: Pair, tick: u32, line: Line, up: &[u8]) -> Pair {
     }
 }
 
-fn silent(pair: Pair) -> Pair {
+fn silent(to: Stdout, pair: Pair) -> Pair {
     let master = pair.master;
     let slave = pair.slave;
     let silence = master.silence();
     let answer = silence.answer;
     let after = silence.master;
-    print::text(b". ");
-    done(answer);
+    print::text(to, b". ");
+    done(to, answer);
     Pair {
         master: after,
         slave,
@@ -175,135 +182,135 @@ fn part(bytes: &[u8], size: usize) -> &[u8] {
     &bytes[0..size]
 }
 
-fn step_shown(answer: StepAnswer, up: &[u8]) {
+fn step_shown(to: Stdout, answer: StepAnswer, up: &[u8]) {
     match answer {
         StepAnswer::Responds(line, news) => {
-            print::text(b"< ");
-            sent(line, up);
-            print::text(b"slave ");
-            told(news);
+            print::text(to, b"< ");
+            sent(to, line, up);
+            print::text(to, b"slave ");
+            told(to, news);
         }
-        StepAnswer::Refused(n) => refused(n),
+        StepAnswer::Refused(n) => refused(to, n),
     }
 }
 
-fn sent(line: Line, bytes: &[u8]) {
+fn sent(to: Stdout, line: Line, bytes: &[u8]) {
     let address = line.address;
     let meaning = line.meaning;
     let size = line.size;
-    print::small(address);
-    print::text(b" ");
-    print::meaning(meaning);
-    print::text(b" ");
-    print::size(size);
-    print::text(b" ");
-    print::bytes(part(bytes, size));
-    print::text(b"\n");
+    print::small(to, address);
+    print::text(to, b" ");
+    print::meaning(to, meaning);
+    print::text(to, b" ");
+    print::size(to, size);
+    print::text(to, b" ");
+    print::bytes(to, part(bytes, size));
+    print::text(to, b"\n");
 }
 
-fn told(news: News) {
+fn told(to: Stdout, news: News) {
     let confirmed = news.confirmed;
     let handed = news.handed;
     let link = news.link;
-    print::text(b"confirmed ");
-    print::size(confirmed);
-    print::text(b" handed ");
-    print::size(handed);
+    print::text(to, b"confirmed ");
+    print::size(to, confirmed);
+    print::text(to, b" handed ");
+    print::size(to, handed);
     match link {
-        Change::Same => print::text(b"\n"),
-        Change::Gained => print::text(b" gained\n"),
-        Change::Lost => print::text(b" lost\n"),
+        Change::Same => print::text(to, b"\n"),
+        Change::Gained => print::text(to, b" gained\n"),
+        Change::Lost => print::text(to, b" lost\n"),
     }
 }
 
-fn done(answer: Outcome) {
+fn done(to: Stdout, answer: Outcome) {
     match answer {
-        Outcome::Done => print::text(b"done\n"),
-        Outcome::Refused(n) => refused(n),
+        Outcome::Done => print::text(to, b"done\n"),
+        Outcome::Refused(n) => refused(to, n),
     }
 }
 
-fn refused(n: u8) {
-    print::refused(n);
-    print::text(b"\n");
+fn refused(to: Stdout, n: u8) {
+    print::refused(to, n);
+    print::text(to, b"\n");
 }
 
-fn master_puts(pair: Pair, message: &[u8]) -> Pair {
+fn master_puts(to: Stdout, pair: Pair, message: &[u8]) -> Pair {
     let master = pair.master;
     let slave = pair.slave;
     let put = master.put(message);
     let answer = put.answer;
     let after = put.master;
-    print::text(b"master puts ");
-    done(answer);
+    print::text(to, b"master puts ");
+    done(to, answer);
     Pair {
         master: after,
         slave,
     }
 }
 
-fn slave_puts(pair: Pair, message: &[u8]) -> Pair {
+fn slave_puts(to: Stdout, pair: Pair, message: &[u8]) -> Pair {
     let master = pair.master;
     let slave = pair.slave;
     let put = slave.put(message);
     let answer = put.answer;
     let after = put.slave;
-    print::text(b"slave puts ");
-    done(answer);
+    print::text(to, b"slave puts ");
+    done(to, answer);
     Pair {
         master,
         slave: after,
     }
 }
 
-fn master_takes(pair: Pair) -> Pair {
+fn master_takes(to: Stdout, pair: Pair) -> Pair {
     let mut out = [0u8; 253];
     let master = pair.master;
     let slave = pair.slave;
     let take = master.take(&mut out);
     let answer = take.answer;
     let after = take.master;
-    print::text(b"master takes ");
-    took(answer, &out);
+    print::text(to, b"master takes ");
+    took(to, answer, &out);
     Pair {
         master: after,
         slave,
     }
 }
 
-fn slave_takes(pair: Pair) -> Pair {
+fn slave_takes(to: Stdout, pair: Pair) -> Pair {
     let mut out = [0u8; 253];
     let master = pair.master;
     let slave = pair.slave;
     let take = slave.take(&mut out);
     let answer = take.answer;
     let after = take.slave;
-    print::text(b"slave takes ");
-    took(answer, &out);
+    print::text(to, b"slave takes ");
+    took(to, answer, &out);
     Pair {
         master,
         slave: after,
     }
 }
 
-fn took(answer: TakeAnswer, out: &[u8]) {
+fn took(to: Stdout, answer: TakeAnswer, out: &[u8]) {
     match answer {
         TakeAnswer::Taken(size) => {
-            print::bytes(part(out, size));
-            print::text(b"\n");
+            print::bytes(to, part(out, size));
+            print::text(to, b"\n");
         }
-        TakeAnswer::Refused(n) => refused(n),
+        TakeAnswer::Refused(n) => refused(to, n),
     }
 }
 
-fn slave_restarts(pair: Pair) -> Pair {
+fn slave_restarts(to: Stdout, pair: Pair) -> Pair {
     let master = pair.master;
     let slave = pair.slave;
     let restart = slave.restart();
     let answer = restart.answer;
     let after = restart.slave;
-    print::text(b"slave restarts ");
-    done(answer);
+    print::text(to, b"slave restarts ");
+    done(to, answer);
     Pair {
         master,
         slave: after,

@@ -5,7 +5,8 @@ mod exchange;
 mod print;
 mod wire;
 
-fn main() {
-    wire::show();
-    exchange::show();
+fn main(rt: HostRuntime) {
+    let to = rt.stdout();
+    wire::show(to);
+    exchange::show(to);
 }

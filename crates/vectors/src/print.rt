@@ -1,32 +1,31 @@
 // Printing: words, numbers, bytes in hex and the meanings of frames.
 use frame::Meaning;
-use libc::STDOUT_FILENO;
+use std::io::{Print, Stdout};
 
-pub fn text(words: &[u8]) {
-    io::write_all(STDOUT_FILENO, words);
+// What cannot be printed is left out.
+pub fn text(to: Stdout, words: &[u8]) {
+    let _ = Print::write_all(&to, words);
 }
 
-pub fn number(n: u64) {
-    io::print_decimal(STDOUT_FILENO, n);
+pub fn number(to: Stdout, n: u64) {
+    let _ = print!(to; "{n}");
 }
 
-pub fn size(n: usize) {
-    number(n as u64);
+pub fn size(to: Stdout, n: usize) {
+    number(to, n as u64);
 }
 
-pub fn small(n: u8) {
-    number(n as u64);
+pub fn small(to: Stdout, n: u8) {
+    number(to, n as u64);
 }
 
-pub fn hex(n: u64, width: usize) {
-    io::print_hex(STDOUT_FILENO, n, width);
+pub fn hex(to: Stdout, n: u64, width: usize) {
+    let _ = print!(to; "{n:0width$x}");
 }
 
-pub fn bytes(s: &[u8]) {
-    let mut i = 0;
-    while i < s.len() {
-        hex(wide(s[i]), 2);
-        i += 1;
+pub fn bytes(to: Stdout, s: &[u8]) {
+    for x in s {
+        hex(to, wide(*x), 2);
     }
 }
 
@@ -35,34 +34,34 @@ fn wide(x: u8) -> u64 {
 }
 
 // A kind with Ns and Nr, `-` where it carries none.
-pub fn meaning(m: Meaning) {
+pub fn meaning(to: Stdout, m: Meaning) {
     match m {
         Meaning::I(ns, nr) => {
             let s = ns.0;
             let r = nr.0;
-            text(b"I ");
-            small(s);
-            text(b" ");
-            small(r);
+            text(to, b"I ");
+            small(to, s);
+            text(to, b" ");
+            small(to, r);
         }
         Meaning::Rr(nr) => {
             let r = nr.0;
-            text(b"RR - ");
-            small(r);
+            text(to, b"RR - ");
+            small(to, r);
         }
         Meaning::Rnr(nr) => {
             let r = nr.0;
-            text(b"RNR - ");
-            small(r);
+            text(to, b"RNR - ");
+            small(to, r);
         }
-        Meaning::Snrm => text(b"SNRM - -"),
-        Meaning::Disc => text(b"DISC - -"),
-        Meaning::Ua => text(b"UA - -"),
-        Meaning::Frmr => text(b"FRMR - -"),
+        Meaning::Snrm => text(to, b"SNRM - -"),
+        Meaning::Disc => text(to, b"DISC - -"),
+        Meaning::Ua => text(to, b"UA - -"),
+        Meaning::Frmr => text(to, b"FRMR - -"),
     }
 }
 
-pub fn refused(n: u8) {
-    text(b"refused ");
-    small(n);
+pub fn refused(to: Stdout, n: u8) {
+    text(to, b"refused ");
+    small(to, n);
 }
