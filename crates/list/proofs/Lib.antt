@@ -1,2 +1,4 @@
--- Laws of this program.
+-- The lemmas of this program's proofs.
+pub mod Known
 pub mod Holding
+pub mod Whole

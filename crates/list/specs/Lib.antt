@@ -1,2 +1,3 @@
 -- The definitions that the contracts of this program cite.
 pub mod Sizes
+pub mod Streams
