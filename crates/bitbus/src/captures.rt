@@ -1,4 +1,4 @@
-// The exported functions of captures: one record, and the listing.
+// The C surface's functions of captures: one record, and the listing.
 ghost use Rattle.std.specs.Prelude.{◌≡◌, length};
 ghost use Rattle.listing.specs.Listing.{list_bytes, listed, list_of};
 ghost use Rattle.capture.specs.Record.{found, record_at};

@@ -1,4 +1,4 @@
-// The C surface: exported functions over numbers and lent bytes, for the firmware of a master or a slave. include/bitbus.h says what each does.
+// The C surface: functions over numbers and lent bytes, for the firmware of a master or a slave, which bitbus_c exports. include/bitbus.h says what each does.
 #![tactic(auto)]
 
 pub mod captures;

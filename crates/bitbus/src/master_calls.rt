@@ -1,4 +1,4 @@
-// The exported calls on a master, which lies in lent bytes: read, called, and written back unless the call is refused.
+// The C surface's calls on a master, which lies in lent bytes: read, called, and written back unless the call is refused.
 ghost use Rattle.std.specs.Prelude.{◌≡◌, length};
 ghost use Rattle.master.specs.Master.{done_given, take_given};
 ghost use Rattle.master.specs.Order.{order_given};

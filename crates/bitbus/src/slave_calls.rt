@@ -1,4 +1,4 @@
-// The exported calls on a slave, which lies in lent bytes: read, called, and written back unless the call is refused.
+// The C surface's calls on a slave, which lies in lent bytes: read, called, and written back unless the call is refused.
 ghost use Rattle.std.specs.Prelude.{◌≡◌, length};
 ghost use Rattle.slave.specs.Slave.{done_given, take_given};
 ghost use Rattle.slave.specs.Step.{step_given};

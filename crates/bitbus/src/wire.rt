@@ -1,4 +1,4 @@
-// The exported functions of the wire: check word, message check, writing, reading, NRZI both ways.
+// The C surface's functions of the wire: check word, message check, writing, reading, NRZI both ways.
 ghost use Rattle.std.specs.Prelude.{false, true, ◌≡◌, length};
 ghost use Rattle.frame.specs.Message.{check_of};
 ghost use Rattle.bits.specs.Check.{check_word};

@@ -16,5 +16,5 @@ layout_outcomes =
       meaning_of = λ κs a o u p q. both (meets p q) refl;
       control_of = λ κs a o u p q. both (meets p q) refl;
       link_number = λ κs a o u p q. both (meets p q) refl;
-      level-number = λ κs a o u p q. both (meets p q) refl;
+      level_number = λ κs a o u p q. both (meets p q) refl;
     }

@@ -14,4 +14,4 @@ pub record LayoutOutcomes : Type 0 where
   pub meaning_of : OneOutcome code.meaning_of.Kinds.ps code.meaning_of.Kinds.r code.meaning_of.Reads.Learnt
   pub control_of : OneOutcome code.control_of.Kinds.ps code.control_of.Kinds.r code.control_of.Reads.Learnt
   pub link_number : OneOutcome code.link_number.Kinds.ps code.link_number.Kinds.r code.link_number.Reads.Learnt
-  pub level-number : OneOutcome code.level_number.Kinds.ps code.level_number.Kinds.r code.level_number.Reads.Learnt
+  pub level_number : OneOutcome code.level_number.Kinds.ps code.level_number.Kinds.r code.level_number.Reads.Learnt
