@@ -2,3 +2,4 @@
 pub mod Keeps
 pub mod Said
 pub mod Numbers
+pub mod Results

@@ -1,29 +1,29 @@
 -- The control byte that a slave step or an order gives stands in the table, for its meaning.
 -- Assumes nothing.
 use Prim.Native.Nat.{ℕ}
-use mathlib.Core.Path.{◌≡◌, refl}
+use mathlib.Core.Path.{◌≡◌, refl, sym}
 use mathlib.Core.Bool.{Bool}
 use mathlib.Core.List.{List}
 use native.Mathlib.Omega.{arith}
 use lib.Dec.{eqb, ltb}
 use borrow.Author.Tests.{eqb-true}
+use Rattle.std.specs.Prelude.{Option, None, Some}
 use Rattle.frame.specs.Answer.{gives, refuses}
 use Rattle.frame.specs.Control.{count_refusal, counts_refusal, encode_of, decode_of}
 use Rattle.frame.specs.Refusal.{frame_refusal}
 use Rattle.frame.specs.declared.Meaning.{Meaning}
 use Rattle.frame.specs.declared.Meaning.TheVariants.{I, Rr, Rnr, Snrm, Disc, Ua, Frmr}
 use Rattle.frame.proofs.ControlBytes.{decode_byte}
-use Rattle.frame.proofs.Laws.{pick_cases, pick_both, pick_second, then_zero}
+use Rattle.frame.proofs.Laws.{pick_cases, pick_both, pick_second, then_zero, gives_not}
 use Rattle.side.specs.Given.{Given, refused, refusing}
 use Rattle.side.specs.Right.{count_wrong, side_wrong}
 use Rattle.side.specs.Rule.{count_rule}
 use Rattle.side.specs.Say.{status, says_held, says}
 use Rattle.side.specs.Slot.{full}
 use Rattle.side.specs.declared.Side.{Side}
-use Rattle.side.specs.declared.answer.Line.{Line}
+use Rattle.frame.specs.declared.Line.{Line}
 use Rattle.side.specs.declared.answer.News.{News}
-use Rattle.side.specs.declared.rule.Heard.{Heard}
-use Rattle.side.specs.declared.rule.Heard.TheVariants.{Irrecoverable, Accepted}
+use Rattle.side.specs.declared.rule.Accepted.{Accepted}
 use Rattle.side.specs.declared.say.Saying.{Saying}
 use Rattle.side.proofs.Keeps.{keeps as side}
 use Rattle.side.proofs.Parts.{parts}
@@ -45,15 +45,12 @@ use Rattle.bitbus.specs.SlaveCalls.{slave_step}
 use Rattle.bitbus.specs.MasterCalls.{master_order}
 use Rattle.bitbus.specs.Promises.{Said}
 
-never : {A : Type 0} (n : ℕ) (v : A) → refuses n ≡ gives v → ⊥
-never n v e = let z : ◌≡◌ {A = ℕ} 0 1 = cc in omega arith
-
 -- a call that gives values was not refused
 refusing_gives : {A E : Type 0} (n : ℕ) (e : E) (g : Given A E) (v : A) → (refusing n e g).answer ≡ gives v → (n ≡ 0) × (g.answer ≡ gives v)
 refusing_gives {A} {E} n e g v =
     pick_cases (λ (x : Given A E). x.answer ≡ gives v → (n ≡ 0) × (g.answer ≡ gives v)) (eqb n 0) g (refused n e)
     (λ t h. (eqb-true n 0 t, h))
-    (λ t h. absurd (never n v h))
+    (λ t h. absurd (gives_not (sym h)))
 
 same : {A : Type 0} (v w : A) → gives v ≡ gives w → v ≡ w
 same v w e = cc
@@ -91,10 +88,10 @@ frmr_said : counts_refusal Frmr ≡ 0
 unfolding counts_refusal
 frmr_said = refl
 
-heard-said : (s : Slave) (f : Meaning) (t : Side) (k : Heard) → side_wrong t ≡ 0 → counts_refusal (on_heard s f t k).line.meaning ≡ 0
+heard-said : (s : Slave) (f : Meaning) (t : Side) (k : Option Accepted) → side_wrong t ≡ 0 → counts_refusal (on_heard s f t k).line.meaning ≡ 0
 unfolding responds
-heard-said s f t Irrecoverable r = frmr_said
-heard-said s f t (Accepted confirmed handed) r = says_right _ t r
+heard-said s f t None r = frmr_said
+heard-said s f t (Some a) r = says_right _ t r
 
 moved-said : (q : Mode) (s : Slave) (f : Meaning) (m : List ℕ) → frame_refusal f m ≡ 0 → side_wrong s.side ≡ 0 → counts_refusal (moved_in q s f m).line.meaning ≡ 0
 unfolding in_nrm

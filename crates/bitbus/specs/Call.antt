@@ -1,8 +1,12 @@
 -- What a call from C gives back: its number, its values, and the bytes of the end.
-use Rattle.std.specs.Prelude.{ℕ, List, [], ◌∷◌, ◌++◌}
+use Rattle.std.specs.Prelude.{ℕ, ◌≡◌, List, [], ◌∷◌, ◌++◌, eqb, Result}
+use denote.Param.Members.{Once}
+use denote.Ref.{MutBor}
 use Rattle.frame.specs.Answer.{Answer, gives, refuses}
-use Rattle.side.specs.Given.{Given}
-use Rattle.side.specs.declared.answer.Line.{Line}
+use Rattle.frame.specs.Pick.{pick}
+use Rattle.frame.specs.declared.number.Refusal.{Refusal}
+use Rattle.side.specs.Given.{Given, refusing}
+use Rattle.frame.specs.declared.Line.{Line}
 use Rattle.side.specs.declared.answer.News.{News}
 use Rattle.layout.specs.Control.{control_of, link_number}
 
@@ -19,6 +23,28 @@ after f (refuses n) old = old
 -- an end written back to its bytes
 abbrev pub written : {A E : Type 0} → (E → List ℕ) → List ℕ → Given A E → Given A (List ℕ)
 written {A} to_bytes b g = record { answer = g.answer; end = after (λ (v : A). to_bytes g.end) g.answer b }
+
+-- a call on the end that lies in bytes: a number of bytes that are no end; else the call on the end that they are, which is written back unless the call is refused
+abbrev pub on_end : {A E : Type 0} → (List ℕ → ℕ) → (List ℕ → E) → (E → List ℕ) → List ℕ → (E → Given A E) → Given A (List ℕ)
+on_end wrong at to_bytes b call = refusing (wrong b) b (written to_bytes b (call (at b)))
+
+-- the lent output: as it was where the bytes are no end
+abbrev pub out_of : {E : Type 0} → (List ℕ → ℕ) → (List ℕ → E) → List ℕ → List ℕ → (E → List ℕ) → List ℕ
+out_of wrong at b out call = pick (eqb (wrong b) 0) (call (at b)) out
+
+-- a call that is passed on may give this, on an end and a lent output, and leave those
+pub record Returns {F E A : Type 0}
+    (g : Once F (MutBor E × (MutBor (List ℕ) × Unit {0})) (Result A Refusal × (MutBor E × (MutBor (List ℕ) × Unit {0}))))
+    (call : F) (e : E) (out : List ℕ) (r : Result A Refusal) (f : E) (left : List ℕ) : Type 0 where
+  pub end : MutBor E
+  pub is : end.now ≡ e
+  pub lent : MutBor (List ℕ)
+  pub lends : lent.now ≡ out
+  pub after_end : MutBor E
+  pub after_lent : MutBor (List ℕ)
+  pub met : g.post call (end, (lent, tt)) (r, (after_end, (after_lent, tt)))
+  pub becomes : after_end.now ≡ f
+  pub leaves : after_lent.now ≡ left
 
 -- the values of take: the size
 abbrev pub take_values : ℕ → List ℕ

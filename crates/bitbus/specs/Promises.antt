@@ -3,7 +3,7 @@ use Rattle.std.specs.Prelude.{ℕ, ◌<◌, ◌^◌, ◌≡◌, List, [], ◌∷
 use Rattle.frame.specs.Answer.{gives, Lists}
 use Rattle.frame.specs.Control.{decode_of}
 use Rattle.frame.specs.Refusal.{address_refusal}
-use Rattle.side.specs.declared.answer.Line.{Line}
+use Rattle.frame.specs.declared.Line.{Line}
 use Rattle.side.specs.declared.answer.News.{News}
 use Rattle.slave.specs.Slave.{slave_wrong as slave_end_wrong}
 use Rattle.master.specs.Master.{master_wrong as master_end_wrong, make_refusal}

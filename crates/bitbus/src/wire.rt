@@ -2,20 +2,17 @@
 ghost use Rattle.std.specs.Prelude.{false, true, ◌≡◌, length};
 ghost use Rattle.frame.specs.Message.{check_of};
 ghost use Rattle.bits.specs.Check.{check_word};
-ghost use Rattle.nrzi.specs.Nrzi.{code_bytes, code_of, coded};
-ghost use Rattle.reader.specs.Read.{out_after, reading_gives, read_of, told};
-ghost use Rattle.writer.specs.Write.{write_bytes, write_of, written};
+ghost use Rattle.nrzi.specs.Nrzi.{code_bytes, code_of};
+ghost use Rattle.reader.specs.Read.{out_after, read_of, told};
+ghost use Rattle.writer.specs.Write.{write_bytes, write_of};
 ghost use Rattle.bitbus.specs.Call.{after, number};
 ghost use Rattle.layout.specs.Control.{meaning_of};
 ghost use Rattle.bitbus.specs.Wire.{level_values, read_values, write_values};
 
+use crate::call;
 use bits::check;
 use frame::message;
-use frame::message::Checked;
 use layout::code;
-use nrzi::Coded;
-use reader::Reading;
-use writer::Written;
 
 // The check word over bytes.
 pub fn bitbus_check_word(bytes: &[u8]) -> u16
@@ -28,11 +25,7 @@ pub fn bitbus_check_word(bytes: &[u8]) -> u16
 pub fn bitbus_message_check(message: &[u8]) -> u32
     ensures { result ≡ number (check_of message.now) }
 {
-    let checked = message::check(message);
-    match checked {
-        Checked::Passed => 0,
-        Checked::Refused(number) => number as u32,
-    }
+    call::number(message::check(message))
 }
 
 // Writes a frame as line bits: 8, 9, 10, 12, 11.
@@ -48,21 +41,7 @@ pub fn bitbus_write(
     ensures values { values.new ≡ after write_values (write_of address (meaning_of control) information.now (length out.old)) values.old }
 {
     let meaning = code::meaning_of(control);
-    let wrote = writer::write(address, meaning, information, out);
-    finish_write(wrote, values)
-}
-
-fn finish_write(wrote: Written, values: &mut [usize; 2]) -> u32
-    ensures number { result ≡ number (written wrote) }
-    ensures values { values.new ≡ after write_values (written wrote) values.old }
-{
-    match wrote {
-        Written::Line { bits, zeros } => {
-            *values = [bits, zeros];
-            0
-        }
-        Written::Refused(number) => number as u32,
-    }
+    call::finish(writer::write(address, meaning, information, out), values)
 }
 
 // Reads a frame out of line bits: 2, 1, 3, 4, 5, 6, 7, 8, 9, 10, 12, 11.
@@ -71,22 +50,7 @@ pub fn bitbus_read(buffer: &[u8], bits: usize, out: &mut [u8], values: &mut [usi
     ensures out { out.new ≡ out_after (read_of buffer.now bits (length out.old)) out.old }
     ensures values { values.new ≡ after read_values (told (read_of buffer.now bits (length out.old))) values.old }
 {
-    let reading = reader::read(buffer, bits, out);
-    finish_read(reading, values)
-}
-
-fn finish_read(reading: Reading, values: &mut [usize; 3]) -> u32
-    ensures number { result ≡ number (reading_gives reading) }
-    ensures values { values.new ≡ after read_values (reading_gives reading) values.old }
-{
-    match reading {
-        Reading::Frame(address, meaning, size) => {
-            let control = code::control_of(meaning);
-            *values = [address as usize, control, size];
-            0
-        }
-        Reading::Refused(number) => number as u32,
-    }
+    call::finish(reader::read(buffer, bits, out), values)
 }
 
 // NRZI from bits to levels: 2, 11.
@@ -101,8 +65,7 @@ pub fn bitbus_nrzi_encode(
     ensures out { out.new ≡ code_bytes false level input.now bits out.old }
     ensures values { values.new ≡ after level_values (code_of false level input.now bits (length out.old)) values.old }
 {
-    let done = nrzi::encode(level, input, bits, out);
-    finish_nrzi(done, values)
+    call::finish(nrzi::encode(level, input, bits, out), values)
 }
 
 // NRZI from levels to bits: 2, 11.
@@ -117,20 +80,5 @@ pub fn bitbus_nrzi_decode(
     ensures out { out.new ≡ code_bytes true level input.now bits out.old }
     ensures values { values.new ≡ after level_values (code_of true level input.now bits (length out.old)) values.old }
 {
-    let done = nrzi::decode(level, input, bits, out);
-    finish_nrzi(done, values)
-}
-
-fn finish_nrzi(done: Coded, values: &mut [usize; 1]) -> u32
-    ensures number { result ≡ number (coded done) }
-    ensures values { values.new ≡ after level_values (coded done) values.old }
-{
-    match done {
-        Coded::Level(level) => {
-            let value = code::level_number(level);
-            *values = [value];
-            0
-        }
-        Coded::Refused(number) => number as u32,
-    }
+    call::finish(nrzi::decode(level, input, bits, out), values)
 }

@@ -1,4 +1,4 @@
-// The static library for C: the exported functions that include/bitbus.h declares, over the library `bitbus`.
+// The static library for C: the exported functions that include/bitbus.h declares, over the library `bitbus`. The C interface needs each by its name, so each stands there and here.
 #![tactic(auto)]
 
 mod captures;

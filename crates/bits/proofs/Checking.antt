@@ -1,18 +1,16 @@
 -- The check word's register is linear, so that eight steps are one, which depends on a byte alone.
 -- Assumes nothing.
-use Prim.Native.Nat.{ℕ, zero, suc, ◌+◌, ◌*◌, ◌/◌, ◌%◌, ◌^◌, ◌≤◌, ◌<◌}
+use Prim.Native.Nat.{ℕ, zero, suc, ◌+◌, ◌*◌, ◌/◌, ◌%◌, ◌^◌, ◌<◌}
 use mathlib.Core.Path.{◌≡◌, ◌∙◌, refl, sym, ap, ap₂}
 use mathlib.Core.Bool.{Bool, true, false}
 use mathlib.Core.List.{List, [], ◌∷◌, ◌++◌}
 use native.Mathlib.Omega.{arith}
 use native.Mathlib.Nat.{pow-suc, div-add-mod'}
-use native.Mathlib.Numerals.{add-one}
 use lib.Arith.{bin_ind}
 use borrow.Author.Tests.{eq-eqb}
 use lib.Dec.{eqb, lit<}
 use lib.Bits.{bit_xor, differ, xor_step, xor_comm, xor_zero_r, xor_self, xor_shifted, shifted_half, shifted_even}
-use lib.ListN.{length, get_or, drop, drop_of_length-le}
-use lib.Seq.{drop-cons}
+use Rattle.std.specs.List.{fold}
 use Rattle.frame.specs.Pick.{pick}
 use Rattle.bits.specs.Bits.{num, odd, low, bits_of}
 use Rattle.bits.specs.Check.{shifted, register, after_zeros}
@@ -148,12 +146,12 @@ unfolding register
 register-append c [] y = refl
 register-append c (b ∷ bs) y = register-append (shifted c b) bs y
 
--- the register after the first of the bytes that are left
-pub register-next : (c i : ℕ) (bytes : List ℕ) → i < length bytes
-    → register c (bits_of (drop i bytes)) ≡ register (register c (low 8 (get_or bytes i 0))) (bits_of (drop (i + 1) bytes))
-unfolding bits_of
-register-next c i bytes h = rw (drop-cons bytes i 0 h, add-one i) (register-append c (low 8 (get_or bytes i 0)) (bits_of (drop (suc i) bytes)))
+register_none : (c : ℕ) → c ≡ register c []
+unfolding register
+register_none c = refl
 
-pub register-done : (c i : ℕ) (bytes : List ℕ) → length bytes ≤ i → register c (bits_of (drop i bytes)) ≡ c
-unfolding bits_of register
-register-done c i bytes h = rw (drop_of_length-le bytes h)
+-- byte by byte
+pub register-fold : (c : ℕ) (bytes : List ℕ) → fold (λ (r x : ℕ). register r (low 8 x)) c bytes ≡ register c (bits_of bytes)
+unfolding bits_of
+register-fold c [] = register_none c
+register-fold c (x ∷ xs) = register-fold (register c (low 8 x)) xs ∙ sym (register-append c (low 8 x) (bits_of xs))

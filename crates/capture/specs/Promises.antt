@@ -1,8 +1,9 @@
 -- What is promised of this room beside each function's contract. The proofs stand in proofs/Numbers, LosesNothing and AnExample.
-use Rattle.std.specs.Prelude.{ℕ, ◌≡◌, List, [], ◌∷◌}
+use Rattle.std.specs.Prelude.{ℕ, ◌≡◌, List, [], ◌∷◌, Option, Result}
 use Rattle.frame.specs.Answer.{gives, Lists}
 use Rattle.frame.specs.declared.Meaning.TheVariants.{I}
-use Rattle.capture.specs.declared.records.Found.{Found}
+use Rattle.frame.specs.declared.number.Refusal.{Refusal}
+use Rattle.capture.specs.declared.records.Record.{Record}
 use Rattle.capture.specs.Record.{order, silence, entry, found, record_at}
 
 -- "Refusal 18: ..; then 8, 9, 10, 12 for bodies."
@@ -15,7 +16,7 @@ Numbers = (capture : List ℕ) (at : ℕ) → Lists record_numbers (record_at ca
 
 -- the definition that lists an answer's number and values loses nothing
 abbrev pub LosesNothing : Type 0
-LosesNothing = (a b : Found) → found a ≡ found b → a ≡ b
+LosesNothing = (a b : Result (Option Record) Refusal) → found a ≡ found b → a ≡ b
 
 -- the third and the fourth record of the worked input: an I frame with both counts 0 and five bytes, and a silence
 abbrev pub Worked : Type 0

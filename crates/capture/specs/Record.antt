@@ -1,15 +1,18 @@
 -- One record of a capture (01, "Captures").
-use Rattle.std.specs.Prelude.{ℕ, ◌+◌, ◌*◌, ◌-◌, List, eqb, ltb, length, get_or, take, drop}
+use Rattle.std.specs.Prelude.{ℕ, ◌≡◌, ◌+◌, ◌*◌, ◌-◌, List, Option, Some, None, Result, Ok, Err, eqb, ltb, length, get_or, take, drop}
 use Rattle.frame.specs.Pick.{pick}
-use Rattle.frame.specs.Answer.{Answer, gives, refuses, unless}
+use Rattle.frame.specs.Answer.{Answer, gives, refuses, unless, number_of}
 use Rattle.frame.specs.Control.{decode_of}
 use Rattle.frame.specs.Refusal.{address_refusal, information_refusal}
 use Rattle.frame.specs.declared.Meaning.{Meaning}
+use Rattle.frame.specs.declared.number.Refusal.{Refusal}
+use Rattle.frame.specs.declared.number.Refusal.TheVariants.{Record as IsRecord}
 use Rattle.capture.specs.declared.records.Frame.{Frame}
-use Rattle.capture.specs.declared.records.Found.{Found}
-use Rattle.capture.specs.declared.records.Found.TheVariants.{Order, Response, Silence, End, Refused}
-use Rattle.capture.specs.declared.records.Judged.{Judged}
-use Rattle.capture.specs.declared.records.Judged.TheVariants.{Right, Refused as NotRight}
+use Rattle.capture.specs.declared.records.Kind.{Kind}
+use Rattle.capture.specs.declared.records.Kind.TheVariants.{Order as IsOrder, Response as IsResponse, Silence as IsSilence}
+use Rattle.capture.specs.declared.records.Entry.{Entry as Told}
+use Rattle.capture.specs.declared.records.Entry.TheVariants.{Order, Response, Silence}
+use Rattle.capture.specs.declared.records.Record.{Record}
 
 -- a number in "two bytes, little-endian", from a place on
 unfoldable pub pair_at : List ℕ → ℕ → ℕ
@@ -91,14 +94,25 @@ record_of at left = pick (eqb (length left) 0) (gives end) (pick (eqb (form_refu
 unfoldable pub record_at : List ℕ → ℕ → Answer Step
 record_at capture at = record_of at (drop at capture)
 
--- each answer's number and values
-abbrev pub found : Found → Answer Step
-found (Order frame next) = gives (entry (order frame) next)
-found (Response frame next) = gives (entry (response frame) next)
-found (Silence next) = gives (entry silence next)
-found End = gives end
-found (Refused n) = refuses n
+-- what a record tells of
+abbrev pub told : Told → Entry
+told (Order frame) = order frame
+told (Response frame) = response frame
+told Silence = silence
 
-abbrev pub judged : Judged → Answer Frame
-judged (Right frame) = gives frame
-judged (NotRight n) = refuses n
+-- the number and the values of each answer
+abbrev pub found : Result (Option Record) Refusal → Answer Step
+found (Ok (Some r)) = gives (entry (told r.entry) r.next)
+found (Ok None) = gives end
+found (Err r) = refuses (number_of r)
+
+-- the number of a kind
+abbrev pub kind_number : Kind → ℕ
+kind_number IsOrder = 1
+kind_number IsResponse = 2
+kind_number IsSilence = 3
+
+-- a number's kind, or 18 whatever the body is
+abbrev pub Names : ℕ → Result Kind Refusal → Type 0
+Names n (Ok kind) = kind_number kind ≡ n
+Names n (Err r) = (r ≡ IsRecord) × ((size : ℕ) → kind_refusal n size ≡ 18)

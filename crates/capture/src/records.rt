@@ -1,18 +1,9 @@
 // One record of a capture: what it is and where the next begins, or the refusal.
-ghost use Rattle.std.specs.Prelude.{◌≡◌, ◌+◌, ◌^◌, ◌<◌, ◌≤◌, length};
-ghost use Rattle.frame.specs.Control.{decoded as decoded_as};
-ghost use Rattle.frame.specs.Answer.{gives};
-ghost use Rattle.capture.specs.Record.{found, judged, record_at, record_of, form_refusal, kind_refusal, pair_at, frame_in, with_control, with_information, framed, entry, way_of};
+ghost use Rattle.std.specs.Prelude.{◌≡◌, ◌≤◌, length, IfOk};
+ghost use Rattle.frame.specs.Answer.{answer, refusal_in};
+ghost use Rattle.capture.specs.Record.{Names, form_refusal, found, frame_in, kind_number, kind_of, kind_refusal, length_of, record_at};
 
-use frame::control::Decoded;
-use frame::{Meaning, control, number, refusal};
-
-// The kinds of records.
-pub const ORDER: usize = 1;
-
-pub const RESPONSE: usize = 2;
-
-pub const SILENCE: usize = 3;
+use frame::{Meaning, Refusal, control, refusal};
 
 // The bytes before the body: length and kind.
 pub const HEAD: usize = 4;
@@ -22,172 +13,126 @@ pub const LEAST_BODY: usize = 2;
 
 pub const MOST_BODY: usize = 255;
 
-// What an order or a response carries; size is that of its information.
-#[derive(Clone, Copy)]
+// What an order or a response carries; size is that of its information. Not `frame::Line`: a size in a byte is what bounds a line of the listing.
+#[derive(Clone, Copy, Debug, PartialEq, Eq)]
 pub struct Frame {
     pub address: u8,
     pub meaning: Meaning,
     pub size: u8,
 }
 
-// What stands at a place of a capture; the number beside a record is the place where the next begins.
-#[derive(Clone, Copy)]
-pub enum Found {
-    Order(Frame, usize),
-    Response(Frame, usize),
-    Silence(usize),
-    End,
-    Refused(u8),
+// What a record tells of.
+#[derive(Clone, Copy, Debug, PartialEq, Eq)]
+pub enum Entry {
+    Order(Frame),
+    Response(Frame),
+    Silence,
 }
 
-#[derive(Clone, Copy)]
-enum Judged {
-    Right(Frame),
-    Refused(u8),
+// A record, and the place where the next begins.
+#[derive(Clone, Copy, Debug, PartialEq, Eq)]
+pub struct Record {
+    pub entry: Entry,
+    pub next: usize,
 }
 
-// The record at a place of a capture: its end where nothing is left, also past it.
-pub fn read(capture: &[u8], at: usize) -> Found
+// The kinds of records.
+#[derive(Clone, Copy)]
+enum Kind {
+    Order = 1,
+    Response = 2,
+    Silence = 3,
+}
+
+// The kind of a number, or 18.
+impl TryFrom<u16> for Kind {
+    type Error = Refusal;
+
+    ghost try_from_gives = { Names };
+
+    #[tactic(auto, unfolding(crate::specs::Record::kind_refusal))]
+    fn try_from(number: u16) -> Result<Kind, Refusal> {
+        match number {
+            1 => Ok(Kind::Order),
+            2 => Ok(Kind::Response),
+            3 => Ok(Kind::Silence),
+            _ => Err(Refusal::Record),
+        }
+    }
+}
+
+// The first four bytes of a record.
+#[derive(Clone, Copy)]
+struct Head {
+    size: usize,
+    kind: Kind,
+}
+
+// The record at a place of a capture; none where nothing is left, also past its end.
+#[tactic(auto, using(crate::proofs::Forms::record_end, crate::proofs::Forms::at_refused, crate::proofs::Forms::at_silent))]
+pub fn read(capture: &[u8], at: usize) -> Result<Option<Record>, Refusal>
     ensures { found result ≡ record_at capture.now at }
 {
     if capture.len() <= at {
-        return Found::End;
+        return Ok(None);
     }
-    first(&capture[at..], at)
+    let left = &capture[at..];
+    let head = head_of(left)?;
+    let body = &left[HEAD..head.size];
+    let next = at + head.size;
+    let entry = match head.kind {
+        Kind::Order => Entry::Order(judge(body)?),
+        Kind::Response => Entry::Response(judge(body)?),
+        Kind::Silence => Entry::Silence,
+    };
+    Ok(Some(Record { entry, next }))
 }
 
-// The record at the front of what is left of a capture from a place on.
-fn first(left: &[u8], at: usize) -> Found
-    requires { (0 < length left.now) × (at + length left.now < 2 ^ 64) }
-    ensures { found result ≡ record_of at left.now }
-{
-    let refusal = form_refusal(left);
-    if refusal != 0 {
-        return Found::Refused(refusal);
-    }
-    let size = pair(left, 0);
-    let kind = pair(left, 2);
-    let next = at + size;
-    if kind == SILENCE {
-        return Found::Silence(next);
-    }
-    let body = judge(&left[HEAD..size]);
-    frame_found(kind, next, body)
-}
-
-// 18 of what is left of a capture, else 0: length, kind and size of the body.
-fn form_refusal(left: &[u8]) -> u8
-    ensures { result ≡ form_refusal left.now }
+// 18 of what is left of a capture: length, kind and size of the body.
+#[tactic(auto, unfolding(crate::specs::Record::form_refusal, crate::specs::Record::pair_at), using(frame::proofs::LosesNothing::refused))]
+fn head_of(left: &[u8]) -> Result<Head, Refusal>
+    ensures refusal { refusal_in result ≡ form_refusal left.now }
+    ensures head { IfOk result (λ h. (h.size ≡ length_of left.now) × (kind_number h.kind ≡ kind_of left.now)) }
 {
     if left.len() < HEAD {
-        return number::RECORD;
+        return Err(Refusal::Record);
     }
-    let size = pair(left, 0);
-    if size < HEAD {
-        return number::RECORD;
+    let size = usize::from(u16::from_le_bytes([left[0], left[1]]));
+    if size < HEAD || left.len() < size {
+        return Err(Refusal::Record);
     }
-    if left.len() < size {
-        return number::RECORD;
-    }
-    let kind = pair(left, 2);
-    let body = size - HEAD;
-    kind_refusal(kind, body)
+    let kind = Kind::try_from(u16::from_le_bytes([left[2], left[3]]))?;
+    kind_refusal(kind, size - HEAD)?;
+    Ok(Head { size, kind })
 }
 
-fn kind_refusal(kind: usize, body: usize) -> u8
-    ensures { result ≡ kind_refusal kind body }
+// 18 of the size of a kind's body.
+#[tactic(auto, unfolding(crate::specs::Record::kind_refusal))]
+fn kind_refusal(kind: Kind, body: usize) -> Result<(), Refusal>
+    ensures { refusal_in result ≡ kind_refusal (kind_number kind) body }
 {
-    if kind == SILENCE {
-        if body == 0 {
-            return 0;
-        }
-        return number::RECORD;
-    }
-    if kind < ORDER {
-        return number::RECORD;
-    }
-    if RESPONSE < kind {
-        return number::RECORD;
-    }
-    if body < LEAST_BODY {
-        return number::RECORD;
-    }
-    if MOST_BODY < body {
-        return number::RECORD;
-    }
-    0
-}
-
-// Two bytes, little-endian.
-fn pair(left: &[u8], at: usize) -> usize
-    requires { at + 1 < length left.now }
-    ensures { (result ≡ pair_at left.now at) × (result < 65536) }
-{
-    let low = wide(left[at]);
-    let after = at + 1;
-    let high = wide(left[after]);
-    let shifted = 256 * high;
-    low + shifted
-}
-
-fn wide(byte: u8) -> usize
-    ensures { (result ≡ byte) × (result < 256) }
-{
-    byte as usize
+    let right = match kind {
+        Kind::Order | Kind::Response => LEAST_BODY <= body && body <= MOST_BODY,
+        Kind::Silence => body == 0,
+    };
+    if right { Ok(()) } else { Err(Refusal::Record) }
 }
 
 // 8, 9, 10 or 12 of a body, else what it carries.
-fn judge(body: &[u8]) -> Judged
+#[tactic(auto, unfolding(crate::specs::Record::frame_in, crate::specs::Record::with_information), using(frame::proofs::LosesNothing::refused, frame::proofs::Messages::information_few))]
+fn judge(body: &[u8]) -> Result<Frame, Refusal>
     requires { 2 ≤ length body.now }
-    ensures { judged result ≡ frame_in body.now }
+    ensures { answer result ≡ frame_in body.now }
 {
     let address = body[0];
-    let refusal = refusal::address_refusal(address);
-    if refusal != 0 {
-        return Judged::Refused(refusal);
-    }
-    let control = control::decode(body[1]);
-    with_control(address, control, &body[2..])
-}
-
-fn with_control(address: u8, control: Decoded, information: &[u8]) -> Judged
-    ensures { judged result ≡ with_control address (decoded_as control) information.now }
-{
-    match control {
-        Decoded::Known(meaning) => with_information(address, meaning, information),
-        Decoded::Refused(n) => Judged::Refused(n),
-    }
-}
-
-fn with_information(address: u8, meaning: Meaning, information: &[u8]) -> Judged
-    ensures { judged result ≡ with_information address meaning information.now }
-{
-    let refusal = refusal::information_refusal(meaning, information);
-    if refusal != 0 {
-        return Judged::Refused(refusal);
-    }
+    refusal::address_refusal(address)?;
+    let meaning = control::decode(body[1])?;
+    let information = &body[2..];
+    refusal::information_refusal(meaning, information)?;
     let size = information.len() as u8;
-    Judged::Right(Frame {
+    Ok(Frame {
         address,
         meaning,
         size,
     })
-}
-
-fn frame_found(kind: usize, next: usize, body: Judged) -> Found
-    ensures { found result ≡ framed kind next (judged body) }
-{
-    match body {
-        Judged::Right(frame) => order_or_response(kind, next, frame),
-        Judged::Refused(n) => Found::Refused(n),
-    }
-}
-
-fn order_or_response(kind: usize, next: usize, frame: Frame) -> Found
-    ensures { found result ≡ gives (entry (way_of kind frame) next) }
-{
-    if kind == ORDER {
-        return Found::Order(frame, next);
-    }
-    Found::Response(frame, next)
 }

@@ -65,3 +65,11 @@ unless_lists {A} {n} v {ks} p = pick_cases (λ (x : Answer A). Lists ks x) (eqb 
     other : (n ≡ 0 → ⊥) → Among n (0 ∷ ks) → Among n ks
     other z (here e) = absurd (z e)
     other z (there m) = m
+
+-- an answer with values is none with a number, and numbers of one answer are one
+module _ {A : Type 0} where
+  pub gives_not : {v : A} {n : ℕ} → gives v ≡ refuses n → ⊥
+  gives_not e = cc
+
+  pub refuses_one : {n k : ℕ} → ◌≡◌ {A = Answer A} (refuses n) (refuses k) → n ≡ k
+  refuses_one e = cc

@@ -35,7 +35,7 @@ counts_numbers Disc = here refl
 counts_numbers Ua = here refl
 counts_numbers Frmr = here refl
 
-message_numbers : (m : List ℕ) → Among (message_refusal m) (0 ∷ 10 ∷ 12 ∷ [])
+pub message_numbers : (m : List ℕ) → Among (message_refusal m) (0 ∷ 10 ∷ 12 ∷ [])
 unfolding message_refusal
 message_numbers m =
     pick_among (ltb (length m) 5) (there (here refl))

@@ -6,10 +6,6 @@ use Rattle.frame.specs.declared.SendCount.{SendCount}
 use Rattle.frame.specs.declared.ReceiveCount.{ReceiveCount}
 use Rattle.frame.specs.declared.Meaning.{Meaning}
 use Rattle.frame.specs.declared.Meaning.TheVariants.{I, Rr, Rnr, Snrm, Disc, Ua, Frmr}
-use Rattle.frame.specs.declared.control.Decoded.{Decoded}
-use Rattle.frame.specs.declared.control.Decoded.TheVariants.{Known, Refused as NotKnown}
-use Rattle.frame.specs.declared.control.Encoded.{Encoded}
-use Rattle.frame.specs.declared.control.Encoded.TheVariants.{Byte, Refused as NoByte}
 
 -- the table, line by line
 unfoldable pub byte_of : Meaning → ℕ
@@ -39,10 +35,6 @@ counts_refusal Frmr = 0
 unfoldable pub encode_of : Meaning → Answer ℕ
 encode_of m = unless (counts_refusal m) (byte_of m)
 
-abbrev pub encoded : Encoded → Answer ℕ
-encoded (Byte b) = gives b
-encoded (NoByte n) = refuses n
-
 abbrev counts : List ℕ
 counts = 0 ∷ 1 ∷ 2 ∷ 3 ∷ 4 ∷ 5 ∷ 6 ∷ 7 ∷ []
 
@@ -69,7 +61,3 @@ look b (m ∷ ms) = pick (eqb b (byte_of m)) (gives m) (look b ms)
 -- from a byte to its meaning: the table read backwards
 unfoldable pub decode_of : ℕ → Answer Meaning
 decode_of b = look b known
-
-abbrev pub decoded : Decoded → Answer Meaning
-decoded (Known m) = gives m
-decoded (NotKnown n) = refuses n

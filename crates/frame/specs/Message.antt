@@ -1,9 +1,7 @@
 -- Messages (01, "Messages").
 use Rattle.std.specs.Prelude.{ℕ, ◌+◌, ◌-◌, List, eqb, ltb, length, get_or, take, drop}
 use Rattle.frame.specs.Pick.{pick}
-use Rattle.frame.specs.Answer.{Answer, gives, refuses, unless}
-use Rattle.frame.specs.declared.message.Checked.{Checked}
-use Rattle.frame.specs.declared.message.Checked.TheVariants.{Passed, Refused}
+use Rattle.frame.specs.Answer.{Answer, unless}
 
 -- 10: not 5 to 253 bytes; 12: the first byte is not the size plus 2
 unfoldable pub message_refusal : List ℕ → ℕ
@@ -20,7 +18,3 @@ information_in frame = take (length frame - 4) (drop 2 frame)
 -- "Message check: 10, 12." It gives no value.
 unfoldable pub check_of : List ℕ → Answer (Unit {0})
 check_of m = unless (message_refusal m) tt
-
-abbrev pub checked : Checked → Answer (Unit {0})
-checked Passed = gives tt
-checked (Refused n) = refuses n

@@ -1,13 +1,11 @@
 -- What is promised of this room beside each function's contract. The proofs stand in proofs/ControlBytes, Messages, Numbers and LosesNothing.
-use Rattle.std.specs.Prelude.{ℕ, zero, suc, ◌+◌, ◌-◌, ◌≤◌, ◌≡◌, ◌↔◌, List, [], ◌∷◌, ◌++◌, length, get_or}
-use Rattle.frame.specs.Answer.{Answer, gives, refuses, Among, Lists}
-use Rattle.frame.specs.Control.{counts_refusal, encode_of, encoded, decode_of, decoded}
-use Rattle.frame.specs.Message.{message_refusal, information_in, check_of, checked}
+use Rattle.std.specs.Prelude.{ℕ, zero, suc, ◌+◌, ◌-◌, ◌≤◌, ◌≡◌, ◌↔◌, List, [], ◌∷◌, ◌++◌, length, get_or, Result}
+use Rattle.frame.specs.Answer.{Answer, gives, refuses, number_of, answer, refusal_in, Among, Lists}
+use Rattle.frame.specs.Control.{counts_refusal, encode_of, decode_of}
+use Rattle.frame.specs.Message.{message_refusal, information_in, check_of}
 use Rattle.frame.specs.Refusal.{address_refusal, information_refusal, frame_refusal}
 use Rattle.frame.specs.declared.Meaning.{Meaning}
-use Rattle.frame.specs.declared.control.Decoded.{Decoded}
-use Rattle.frame.specs.declared.control.Encoded.{Encoded}
-use Rattle.frame.specs.declared.message.Checked.{Checked}
+use Rattle.frame.specs.declared.number.Refusal.{Refusal}
 
 abbrev one_if_known : Answer Meaning → ℕ
 one_if_known (gives m) = 1
@@ -52,8 +50,9 @@ pub record Numbers : Type 0 where
   pub information : (m : Meaning) (info : List ℕ) → Among (information_refusal m info) (0 ∷ 10 ∷ 12 ∷ [])
   pub frame : (m : Meaning) (info : List ℕ) → Among (frame_refusal m info) (0 ∷ 9 ∷ 10 ∷ 12 ∷ [])
 
--- the definitions that list an answer's number and values lose nothing
-pub record LosesNothing : Type 0 where
-  pub decode : (a b : Decoded) → decoded a ≡ decoded b → a ≡ b
-  pub encode : (a b : Encoded) → encoded a ≡ encoded b → a ≡ b
-  pub check : (a b : Checked) → checked a ≡ checked b → a ≡ b
+-- the definitions that say an answer's number and values lose nothing: no two refusals have one number, and none has 0
+pub record LosesNothing : Type 1 where
+  pub number : (a b : Refusal) → number_of a ≡ number_of b → a ≡ b
+  pub refused : (a : Refusal) → number_of a ≡ 0 → ⊥
+  pub answer : {A : Type 0} (a b : Result A Refusal) → answer a ≡ answer b → a ≡ b
+  pub refusal : (a b : Result (Unit {0}) Refusal) → refusal_in a ≡ refusal_in b → a ≡ b

@@ -1,8 +1,9 @@
 // The message check, and where the fields of a message stand.
 ghost use Rattle.std.specs.Prelude.{◌≡◌, ◌/◌, ◌%◌};
-ghost use Rattle.frame.specs.Message.{checked, check_of, information_in, message_refusal};
+ghost use Rattle.frame.specs.Answer.{answer, refusal_in};
+ghost use Rattle.frame.specs.Message.{check_of, information_in, message_refusal};
 
-use crate::number;
+use crate::Refusal;
 
 // The least and the greatest size of a message.
 pub const LEAST_SIZE: usize = 5;
@@ -31,31 +32,23 @@ pub const DE: u8 = 0x20;
 
 pub const TR: u8 = 0x10;
 
-#[derive(Clone, Copy)]
-pub enum Checked {
-    Passed,
-    Refused(u8),
-}
-
-// The message check: 10, then 12, of the part of a frame from byte 2 up to the check word.
-pub fn check(part: &[u8]) -> Checked
-    ensures { checked result ≡ check_of part.now }
+// The message check: 10, then 12, of the part of a frame from byte 2 up to the check word. It and `message_refusal` are both promised (docs/PROMISES.md).
+#[tactic(auto, unfolding(crate::specs::Message::check_of))]
+pub fn check(part: &[u8]) -> Result<(), Refusal>
+    ensures { answer result ≡ check_of part.now }
 {
-    let refusal = message_refusal(part);
-    if refusal != 0 {
-        return Checked::Refused(refusal);
-    }
-    Checked::Passed
+    message_refusal(part)
 }
 
 // The message check of a whole frame: address, control, information, check word.
-pub fn check_in(frame: &[u8]) -> Checked
-    ensures { checked result ≡ check_of (information_in frame.now) }
+pub fn check_in(frame: &[u8]) -> Result<(), Refusal>
+    ensures { answer result ≡ check_of (information_in frame.now) }
 {
     check(information(frame))
 }
 
 // The part of a whole frame from byte 2 up to the check word; nothing of a frame that has no room for one.
+#[tactic(auto, unfolding(crate::specs::Message::information_in))]
 pub fn information(frame: &[u8]) -> &[u8]
     ensures { result.now ≡ information_in frame.now }
 {
@@ -67,22 +60,19 @@ pub fn information(frame: &[u8]) -> &[u8]
     &frame[2..end]
 }
 
-// 10 or 12 of a message, else 0: it looks at size and length byte only.
-pub fn message_refusal(message: &[u8]) -> u8
-    ensures { result ≡ message_refusal message.now }
+// 10 or 12 of a message: it looks at size and length byte only.
+#[tactic(auto, unfolding(crate::specs::Message::message_refusal))]
+pub fn message_refusal(message: &[u8]) -> Result<(), Refusal>
+    ensures { refusal_in result ≡ message_refusal message.now }
 {
     let size = message.len();
-    if size < LEAST_SIZE {
-        return number::INFORMATION;
+    if size < LEAST_SIZE || MOST_SIZE < size {
+        return Err(Refusal::Information);
     }
-    if MOST_SIZE < size {
-        return number::INFORMATION;
+    if message[LENGTH_AT] as usize != size + 2 {
+        return Err(Refusal::LengthByte);
     }
-    let length = message[LENGTH_AT] as usize;
-    if length != size + 2 {
-        return number::LENGTH_BYTE;
-    }
-    0
+    Ok(())
 }
 
 // The task that sent the message: the high half of the tasks byte.

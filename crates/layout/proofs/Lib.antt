@@ -1,4 +1,5 @@
--- Laws of laying parts over bytes, and the theorems of this room.
+-- What the library says of bytes in the words of this room, the parts of an end, and the theorems of this room.
+pub mod Conversions
 pub mod Laying
 pub mod ReadBack
 pub mod Every

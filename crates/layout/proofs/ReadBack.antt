@@ -1,10 +1,9 @@
 -- Reading back what was written gives the same end, for every end.
 -- Assumes nothing.
-use Prim.Native.Nat.{ℕ, suc, ◌+◌, ◌*◌, ◌/◌, ◌%◌, ◌<◌, ◌^◌}
+use Prim.Native.Nat.{ℕ, suc, ◌+◌, ◌<◌, ◌^◌}
 use mathlib.Core.Path.{◌≡◌, refl, sym, ap, ◌∙◌}
 use mathlib.Core.Bool.{Bool, true, false}
 use mathlib.Core.List.{List, [], ◌∷◌, ◌++◌, append-nil, append_assoc}
-use native.Mathlib.Omega.{arith}
 use lib.Dec.{eqb, ltb}
 use lib.ListN.{length, get_or, take, drop}
 use lib.Seq.{take_at, drop_at, get_or-append-add}
@@ -19,26 +18,17 @@ use Rattle.layout.specs.Layout.{number_at, bytes_of, mark_byte, side_at, side_he
 use Rattle.layout.specs.SlaveLayout.{slave_mode, slave_mode_byte, slave_at, slave_bytes, slave_wrong}
 use Rattle.layout.specs.MasterLayout.{master_mode, master_mode_byte, master_at, master_tail, master_bytes, master_wrong}
 use Rattle.layout.specs.Promises.{Typed, ReadBack}
+use Rattle.std.specs.Int.{w32, w64, from_le_bytes}
+use Rattle.std.proofs.lemmas.Nat.{from_le_bytes-to_le_bytes_4, from_le_bytes-to_le_bytes_8}
+use Rattle.layout.proofs.Conversions.{four_at, four_bytes, eight_at, eight_bytes}
 use Rattle.layout.proofs.Laying.{side_length}
 
 -- a number by its bytes
-last : (n : ℕ) → n < 256 → n % 256 + 256 * 0 ≡ n
-last n h = omega arith
-
-more : (n v : ℕ) → v ≡ n / 256 → n % 256 + 256 * v ≡ n
-more n v e = omega arith
-
 four : (n : ℕ) → n < 2 ^ 32 → number_at 4 (bytes_of 4 n) 0 ≡ n
-four n h = more n _ (more (n / 256) _ (more (n / 256 / 256) _ (last (n / 256 / 256 / 256) (omega arith))))
+four n h = sym (four_at (bytes_of 4 n) 0) ∙ ap (from_le_bytes w32) (sym (four_bytes n)) ∙ from_le_bytes-to_le_bytes_4 n h
 
 eight : (n : ℕ) → n < 2 ^ 64 → number_at 8 (bytes_of 8 n) 0 ≡ n
-eight n h =
-    let b = n / 256 in
-    let c = n / 256 / 256 in
-    let d = n / 256 / 256 / 256 in
-    let e = n / 256 / 256 / 256 / 256 in
-    let small : n / 256 / 256 / 256 / 256 < 2 ^ 32 = omega arith in
-    more n _ (more b _ (more c _ (more d _ (more e _ (more (e / 256) _ (more (e / 256 / 256) _ (last (e / 256 / 256 / 256) (omega arith))))))))
+eight n h = sym (eight_at (bytes_of 8 n) 0) ∙ ap (from_le_bytes w64) (sym (eight_bytes n)) ∙ from_le_bytes-to_le_bytes_8 n h
 
 -- marks and modes by their bytes
 mark_back : (b : Bool) → eqb (mark_byte b) 1 ≡ b

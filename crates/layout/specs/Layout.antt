@@ -17,7 +17,7 @@
 --      530      4  tick of the order
 --      534      4  answer limit
 --                  a master ends here, with 538 bytes
-use Rattle.std.specs.Prelude.{ℕ, zero, suc, ◌+◌, ◌*◌, ◌/◌, ◌%◌, Bool, true, false, List, [], ◌∷◌, ◌++◌, eqb, ltb, length, get_or, take, drop}
+use Rattle.std.specs.Prelude.{ℕ, zero, suc, ◌+◌, ◌*◌, ◌/◌, ◌%◌, Bool, true, false, List, [], ◌∷◌, ◌++◌, eqb, ltb, get_or, take, drop}
 use Rattle.frame.specs.Pick.{pick, ◌then◌}
 use Rattle.side.specs.declared.Side.{Side}
 
@@ -68,7 +68,3 @@ above most b at = pick (ltb most (get_or b at 0)) 30 0
 -- 30 of the marks that both ends have
 unfoldable pub marks_wrong : List ℕ → ℕ
 marks_wrong b = above 1 b 4 then above 1 b 5
-
--- bytes with a part laid over them from a place on
-abbrev pub laid_at : ℕ → List ℕ → List ℕ → List ℕ
-laid_at at part b = take at b ++ (part ++ drop (at + length part) b)

@@ -1,13 +1,15 @@
 // How a master lies in bytes.
 ghost use Rattle.std.specs.Prelude.{◌≡◌};
-ghost use Rattle.layout.specs.MasterLayout.{master_at, master_bytes, master_mode, master_mode_byte, master_tail, master_wrong};
+ghost use Rattle.layout.specs.MasterLayout.{master_at, master_bytes, master_mode, master_tail, master_wrong};
 
-use crate::side_layout;
-use frame::number;
+use crate::side_layout::{ADDRESS_AT, MODE_AT, NS_AT};
+use crate::{InBytes, side_layout};
+use frame::Refusal;
 use master::{Master, Mode};
 
 pub const SIZE: usize = 538;
 
+// The offsets of what a master holds behind what both ends hold.
 const BUSY_AT: usize = 528;
 
 const WAITING_AT: usize = 529;
@@ -16,90 +18,63 @@ const TICK_AT: usize = 530;
 
 const LIMIT_AT: usize = 534;
 
-// 30 of bytes that are no master, else 0.
-pub fn master_wrong(bytes: [u8; SIZE]) -> u32
-    ensures { result ≡ master_wrong bytes }
-{
-    if 2 < bytes[side_layout::MODE_AT] {
-        return number::END as u32;
-    }
-    if 1 < bytes[BUSY_AT] {
-        return number::END as u32;
-    }
-    if 1 < bytes[WAITING_AT] {
-        return number::END as u32;
-    }
-    side_layout::marks_wrong(&bytes)
-}
+impl InBytes<SIZE> for Master {
+    ghost bytes_wrong = { master_wrong };
 
-// The master that lies in bytes that are one.
-pub fn master_at(bytes: [u8; SIZE]) -> Master
-    ensures { result ≡ master_at bytes }
-{
-    let side = side_layout::side_at(&bytes);
-    let mode = master_mode(bytes[side_layout::MODE_AT]);
-    let busy = bytes[BUSY_AT] == 1;
-    let waiting = bytes[WAITING_AT] == 1;
-    let tick = side_layout::word_at(&bytes, TICK_AT);
-    let limit = side_layout::word_at(&bytes, LIMIT_AT);
-    let address = bytes[side_layout::ADDRESS_AT];
-    Master {
-        side,
-        mode,
-        busy,
-        waiting,
-        tick,
-        limit,
-        address,
-    }
-}
+    ghost end_at = { master_at };
 
-// The bytes of a master.
-pub fn master_bytes(master: Master) -> [u8; SIZE]
-    ensures { result ≡ master_bytes master }
-{
-    let mut bytes = [0u8; SIZE];
-    let mode = master.mode;
-    bytes[side_layout::MODE_AT] = master_mode_byte(mode);
-    bytes[side_layout::ADDRESS_AT] = master.address;
-    let side = master.side;
-    side_layout::lay_side(side, &mut bytes);
-    let tail = master_tail(master);
-    side_layout::lay(&tail, BUSY_AT, &mut bytes);
-    bytes
+    ghost bytes_of_end = { master_bytes };
+
+    #[tactic(auto, unfolding(crate::specs::MasterLayout::master_wrong))]
+    fn bytes_wrong(bytes: &[u8; SIZE]) -> Result<(), Refusal> {
+        if 2 < bytes[MODE_AT] || 1 < bytes[BUSY_AT] || 1 < bytes[WAITING_AT] {
+            return Err(Refusal::End);
+        }
+        side_layout::marks_wrong(side_layout::common(bytes))
+    }
+
+    fn from_bytes(bytes: &[u8; SIZE]) -> Master {
+        Master {
+            side: side_layout::side_at(side_layout::common(bytes)),
+            mode: master_mode(bytes[MODE_AT]),
+            busy: bytes[BUSY_AT] == 1,
+            waiting: bytes[WAITING_AT] == 1,
+            tick: u32::from_le_bytes(side_layout::array_at(bytes, TICK_AT)),
+            limit: u32::from_le_bytes(side_layout::array_at(bytes, LIMIT_AT)),
+            address: bytes[ADDRESS_AT],
+        }
+    }
+
+    #[tactic(auto, using(crate::proofs::Conversions::master_mode_of), unfolding(crate::specs::MasterLayout::master_bytes))]
+    fn to_bytes(&self) -> [u8; SIZE] {
+        let mut bytes = [0; SIZE];
+        bytes[BUSY_AT..].copy_from_slice(&master_tail(self));
+        bytes[NS_AT..BUSY_AT].copy_from_slice(&side_layout::side_bytes(&self.side));
+        bytes[ADDRESS_AT] = self.address;
+        bytes[MODE_AT] = self.mode as u8;
+        bytes
+    }
 }
 
 // Busy mark, wait, tick and limit.
-fn master_tail(master: Master) -> [u8; 10]
-    ensures { result ≡ master_tail master }
+fn master_tail(master: &Master) -> [u8; 10]
+    ensures { result ≡ master_tail master.now }
 {
-    let busy = side_layout::mark_byte(master.busy);
-    let waiting = side_layout::mark_byte(master.waiting);
-    let t = side_layout::word_bytes(master.tick);
-    let l = side_layout::word_bytes(master.limit);
-    [
-        busy, waiting, t[0], t[1], t[2], t[3], l[0], l[1], l[2], l[3],
-    ]
+    let mut tail = [0; 10];
+    tail[0] = u8::from(master.busy);
+    tail[1] = u8::from(master.waiting);
+    tail[2..6].copy_from_slice(&master.tick.to_le_bytes());
+    tail[6..].copy_from_slice(&master.limit.to_le_bytes());
+    tail
 }
 
+// Any other byte is read as disconnecting, since `master_at` settles the end of any bytes: so no TryFrom.
 fn master_mode(byte: u8) -> Mode
     ensures { result ≡ master_mode byte }
 {
-    if byte == 1 {
-        return Mode::Connecting;
-    }
-    if byte == 2 {
-        return Mode::Linked;
-    }
-    Mode::Disconnecting
-}
-
-fn master_mode_byte(mode: Mode) -> u8
-    ensures { result ≡ master_mode_byte mode }
-{
-    match mode {
-        Mode::Disconnecting => 0,
-        Mode::Connecting => 1,
-        Mode::Linked => 2,
+    match byte {
+        1 => Mode::Connecting,
+        2 => Mode::Linked,
+        _ => Mode::Disconnecting,
     }
 }

@@ -18,7 +18,7 @@ use Rattle.frame.specs.Message.{information_in}
 use Rattle.frame.specs.Refusal.{address_refusal, information_refusal, frame_refusal}
 use Rattle.frame.specs.declared.Meaning.{Meaning}
 use Rattle.frame.specs.declared.Meaning.TheVariants.{I, Rr, Rnr, Snrm, Disc, Ua, Frmr}
-use Rattle.frame.proofs.Laws.{pick_cases, pick_first, pick_second, then_zero, unless_gives}
+use Rattle.frame.proofs.Laws.{pick_cases, pick_first, pick_second, then_zero, unless_gives, gives_not}
 use Rattle.frame.proofs.Bytes.{bytes_cons, bytes_append, bytes_drop}
 use Rattle.frame.proofs.ControlBytes.{count_small, decode_byte, round_trip}
 use Rattle.frame.proofs.Messages.{part as information_part, information_few}
@@ -29,9 +29,9 @@ use Rattle.bits.specs.Count.{bit_count_refusal}
 use Rattle.bits.specs.Packed.{bytes_for}
 use Rattle.bits.proofs.BitLaws.{length_bits_of, bytes_back, bits_back, bytes_of_small, length_bytes_of}
 use Rattle.bits.proofs.Insertion.{no_six_ones, length-insert, remove-insert, ending-insert, insert-remove, never_quiet}
-use Rattle.writer.specs.Write.{Report, content_bytes, line, content_of, report, room_refusal, write_refusal, write_of, write_bytes, laid}
+use Rattle.writer.specs.Write.{content_bytes, line, content_of, report, room_refusal, write_refusal, write_of, write_bytes, laid}
+use Rattle.writer.specs.declared.Report.{Report}
 use Rattle.writer.specs.Promises.{WriteAllowed}
-use Rattle.writer.specs.declared.Written.TheVariants.{Line}
 use Rattle.writer.proofs.Answering.{encode_gives}
 use Rattle.writer.proofs.Lining.{length_content, laid_bits}
 use Rattle.writer.proofs.Writing.{write_within}
@@ -39,8 +39,9 @@ use Rattle.reader.specs.Places.{Flag}
 use Rattle.reader.specs.Flags.{Heard, nothing, content, heard}
 use Rattle.reader.specs.Read.{◌before◌, removal_refusal, check_refusal, bytes_in, meant, frame_answer, content_answer, judged, fitting, read_of, told, out_after}
 use Rattle.reader.specs.Promises.{ReadAllowed}
-use Rattle.reader.specs.declared.Reading.{Reading}
-use Rattle.reader.specs.declared.Reading.TheVariants.{Frame}
+use Rattle.frame.specs.declared.Line.{Line}
+use Rattle.frame.specs.declared.number.Refusal.{Refusal}
+use Rattle.std.specs.Prelude.{Result, Ok}
 use Rattle.reader.proofs.Answers.{read_loses_nothing}
 use Rattle.reader.proofs.Judging.{before_passes, removal_passed}
 use Rattle.reader.proofs.Windows.{flag_within}
@@ -53,10 +54,6 @@ unfolding check_bytes check_word
 check_bytes_lem x zero = omega arith
 check_bytes_lem x (suc zero) = omega arith
 check_bytes_lem x (suc (suc i)) = omega arith
-
--- an answer is not both
-never : {A : Type 0} (n : ℕ) (v : A) → refuses n ≡ gives v → ⊥
-never n v e = let z : ◌≡◌ {A = ℕ} 0 1 = cc in omega arith
 
 -- ---- a content of bytes, read
 
@@ -161,7 +158,7 @@ bytes_in_small c = bytes_of_small (length (remove 0 c) / 8) (remove 0 c)
 
 before_gives : {A : Type 0} (n : ℕ) (x : Answer A) (v : A) → (n before x) ≡ gives v → (n ≡ 0) × (x ≡ gives v)
 before_gives {A} n x v =
-    pick_cases (λ (y : Answer A). y ≡ gives v → (n ≡ 0) × (x ≡ gives v)) (eqb n 0) x (refuses n) (λ t e. (eqb-true n 0 t, e)) (λ t e. absurd (never n v e))
+    pick_cases (λ (y : Answer A). y ≡ gives v → (n ≡ 0) × (x ≡ gives v)) (eqb n 0) x (refuses n) (λ t e. (eqb-true n 0 t, e)) (λ t e. absurd (gives_not (sym e)))
 
 -- what is known of a frame's bytes that were read
 record Taken (f : List ℕ) (v : Carried) : Type 0 where
@@ -180,7 +177,7 @@ frame-taken f v e =
     known (decode_of (get_or f 1 0)) refl a.0 b.0 b.1
   where
     known : (x : Answer Meaning) → decode_of (get_or f 1 0) ≡ x → check_refusal f ≡ 0 → address_refusal (get_or f 0 0) ≡ 0 → meant x (get_or f 0 0) (information_in f) ≡ gives v → Taken f v
-    known (refuses n) d p q r = absurd (never n v r)
+    known (refuses n) d p q r = absurd (gives_not (sym r))
     known (gives m) d p q r =
         let u = unless_gives (information_refusal m (information_in f)) _ v r in
         let meaning : m ≡ v.meaning = ap (λ (x : Carried). x.meaning) u.1 in
@@ -209,12 +206,12 @@ unfolding content_answer
 content_taken c v e = before_gives (removal_refusal (length (remove 0 c)) (ending 0 c)) (frame_answer (bytes_in c)) v e
 
 judged-taken : (h : Heard) (v : Carried) → judged h ≡ gives v → (s : ℕ) × (c : List Bool) × (h ≡ content s c) × (content_answer c ≡ gives v)
-judged-taken nothing v e = absurd (never 1 v e)
+judged-taken nothing v e = absurd (gives_not (sym e))
 judged-taken (content s c) v e = (s, c, refl, e)
 
 fitting-taken : (room : ℕ) (x : Answer Carried) (v : Carried) → fitting room x ≡ gives v → x ≡ gives v
 fitting-taken room (gives f) v e = ap gives (unless_gives (pick (ltb room (length f.information)) 11 0) f v e).1
-fitting-taken room (refuses n) v e = absurd (never n v e)
+fitting-taken room (refuses n) v e = absurd (gives_not (sym e))
 
 -- ---- a frame that the writer takes
 
@@ -283,10 +280,10 @@ module _ (address : ℕ) (m : Meaning) (info : List ℕ) (ha : address_refusal a
   fits : (room : ℕ) → length info ≤ room → fitting room (gives carried) ≡ gives carried
   fits room h = ap (λ (t : Bool). unless (pick t 11 0) carried) (le-ltb room (length info) h)
 
-  outcome : (buffer : List ℕ) (bits : ℕ) (out : List ℕ) (r : Reading) (after : List ℕ) → read_of buffer bits (length out) ≡ gives carried → ReadAllowed buffer bits out r after
-      → (r ≡ Frame address m (length info)) × (after ≡ info ++ drop (length info) out)
+  outcome : (buffer : List ℕ) (bits : ℕ) (out : List ℕ) (r : Result Line Refusal) (after : List ℕ) → read_of buffer bits (length out) ≡ gives carried → ReadAllowed buffer bits out r after
+      → (r ≡ Ok (record { address = address; meaning = m; size = length info })) × (after ≡ info ++ drop (length info) out)
   outcome buffer bits out r after e a =
-      (read_loses_nothing r (Frame address m (length info)) (a.answer ∙ ap told e), a.information ∙ ap (λ (x : Answer Carried). out_after x out) e)
+      (read_loses_nothing r (Ok (record { address = address; meaning = m; size = length info })) (a.answer ∙ ap told e), a.information ∙ ap (λ (x : Answer Carried). out_after x out) e)
 
 -- ---- the promises
 
@@ -314,7 +311,7 @@ read_is_written buffer bits room f e =
     }
 
 -- what a writing that was not refused left in the buffer
-module _ (address : ℕ) (m : Meaning) (info old buffer : List ℕ) (bits zeros : ℕ) (w : WriteAllowed address m info old (Line bits zeros) buffer) where
+module _ (address : ℕ) (m : Meaning) (info old buffer : List ℕ) (bits zeros : ℕ) (w : WriteAllowed address m info old (Ok (record { bits = bits; zeros = zeros })) buffer) where
   abbrev told_by_writer : Report
   told_by_writer = record { bits = bits; zeros = zeros }
 
@@ -362,7 +359,7 @@ calls_fit address m info old buffer bits zeros hb w out r after h a =
 
 pub calls_give : CallsGive
 calls_give address m info old r hb e room =
-    let w : WriteAllowed address m info old (Line r.bits r.zeros) (write_bytes address m info old) = record { answer = sym e; bytes = refl } in
+    let w : WriteAllowed address m info old (Ok (record { bits = r.bits; zeros = r.zeros })) (write_bytes address m info old) = record { answer = sym e; bytes = refl } in
     let taken = taken address m info old _ r.bits r.zeros w in
     read_back address m info taken.0 taken.1 hb [] [] no_flag _ r.bits room (count_right address m info old _ r.bits r.zeros w)
     (line_there address m info old _ r.bits r.zeros w ∙ sym (append-nil (line (content_of address m info))))

@@ -1,5 +1,5 @@
 -- The round trip: what is written is read, and what is read is written. The proofs stand in proofs/Round.
-use Rattle.std.specs.Prelude.{ℕ, ◌≤◌, ◌≡◌, Bool, List, ◌++◌, length, take, drop}
+use Rattle.std.specs.Prelude.{ℕ, ◌≤◌, ◌≡◌, Bool, List, ◌++◌, length, take, drop, Result, Ok}
 use Rattle.frame.specs.Bytes.{Bytes}
 use Rattle.frame.specs.Answer.{gives}
 use Rattle.frame.specs.Carried.{Carried}
@@ -8,15 +8,15 @@ use Rattle.frame.specs.declared.Meaning.{Meaning}
 use Rattle.bits.specs.Bits.{bits_of}
 use Rattle.bits.specs.Insert.{insert, remove, ending}
 use Rattle.bits.specs.Count.{bit_count_refusal}
-use Rattle.writer.specs.Write.{line, content_of, Report, write_of, write_bytes}
+use Rattle.writer.specs.Write.{line, content_of, write_of, write_bytes}
+use Rattle.writer.specs.declared.Report.{Report}
 use Rattle.writer.specs.Promises.{WriteAllowed}
-use Rattle.writer.specs.declared.Written.TheVariants.{Line}
 use Rattle.reader.specs.Flags.{content, heard}
 use Rattle.reader.specs.Places.{Flag}
 use Rattle.reader.specs.Read.{removal_refusal, bytes_in, fitting, read_of}
 use Rattle.reader.specs.Promises.{ReadAllowed}
-use Rattle.reader.specs.declared.Reading.{Reading}
-use Rattle.reader.specs.declared.Reading.TheVariants.{Frame}
+use Rattle.frame.specs.declared.Line.{Line}
+use Rattle.frame.specs.declared.number.Refusal.{Refusal}
 
 -- First half. Take a frame that the writer takes: its address passes 8, its meaning and information pass 9, 10 and 12.
 -- Take any buffer and bit count that 2 lets pass and whose bits are: leading bits in which no flag stands, the frame's line, and whatever follows.
@@ -26,15 +26,15 @@ WrittenIsRead =
     (address : ℕ) (m : Meaning) (info : List ℕ) → address_refusal address ≡ 0 → frame_refusal m info ≡ 0 → Bytes info
     → (lead rest : List Bool) → ((p : ℕ) → Flag lead p → ⊥)
     → (buffer : List ℕ) (bits : ℕ) → bit_count_refusal (length buffer) bits ≡ 0 → take bits (bits_of buffer) ≡ lead ++ (line (content_of address m info) ++ rest)
-    → (out : List ℕ) (r : Reading) (after : List ℕ) → length info ≤ length out → ReadAllowed buffer bits out r after
-    → (r ≡ Frame address m (length info)) × (after ≡ info ++ drop (length info) out)
+    → (out : List ℕ) (r : Result Line Refusal) (after : List ℕ) → length info ≤ length out → ReadAllowed buffer bits out r after
+    → (r ≡ Ok (record { address = address; meaning = m; size = length info })) × (after ≡ info ++ drop (length info) out)
 
 -- The same from call to call: what a writing that was not refused left in a buffer, read with the bits that the writing reported.
 abbrev pub CallsFit : Type 0
 CallsFit =
-    (address : ℕ) (m : Meaning) (info old buffer : List ℕ) (bits zeros : ℕ) → Bytes info → WriteAllowed address m info old (Line bits zeros) buffer
-    → (out : List ℕ) (r : Reading) (after : List ℕ) → length info ≤ length out → ReadAllowed buffer bits out r after
-    → (r ≡ Frame address m (length info)) × (after ≡ info ++ drop (length info) out)
+    (address : ℕ) (m : Meaning) (info old buffer : List ℕ) (bits zeros : ℕ) → Bytes info → WriteAllowed address m info old (Ok (record { bits = bits; zeros = zeros })) buffer
+    → (out : List ℕ) (r : Result Line Refusal) (after : List ℕ) → length info ≤ length out → ReadAllowed buffer bits out r after
+    → (r ≡ Ok (record { address = address; meaning = m; size = length info })) × (after ≡ info ++ drop (length info) out)
 
 -- The same in the reader's definition: for an output of any room, the frame that was written, or 11.
 abbrev pub CallsGive : Type 0

@@ -12,7 +12,7 @@ use Rattle.frame.proofs.Laws.{pick_cases, pick_first, pick_second, then_zero}
 use Rattle.side.specs.Given.{Given, giving, refused, size_given}
 use Rattle.side.specs.Side.{Arrays}
 use Rattle.side.specs.Slot.{laid}
-use Rattle.side.specs.declared.answer.Line.{Line}
+use Rattle.frame.specs.declared.Line.{Line}
 use Rattle.side.specs.declared.answer.News.{News}
 use Rattle.slave.specs.Step.{step_refusal, moved, step_of}
 use Rattle.slave.specs.declared.Slave.{Slave}

@@ -13,8 +13,8 @@ use Rattle.side.specs.Slot.{full}
 use Rattle.side.specs.Rule.{count_rule}
 use Rattle.side.specs.Promises.{Right}
 use Rattle.side.specs.declared.Side.{Side}
-use Rattle.side.specs.declared.rule.Heard.{Heard}
-use Rattle.side.specs.declared.rule.Heard.TheVariants.{Irrecoverable, Accepted}
+use Rattle.std.specs.Prelude.{Option, None, Some}
+use Rattle.side.specs.declared.rule.Accepted.{Accepted}
 use Rattle.master.specs.Order.{may_inform, in_linked, orders_in, orders}
 use Rattle.master.specs.Response.{is_ua, accepts, hear_disconnecting, hear_connecting, on_heard, hear_linked, hears_in, hears}
 use Rattle.master.specs.declared.Mode.{Mode}
@@ -91,11 +91,11 @@ connecting_seen m Disc k r = refl
 connecting_seen m Ua k r = ap (λ (e : lists.End). lists.goes lists.linked false e) (sync-seen m.side r)
 connecting_seen m Frmr k r = refl
 
-heard-seen : (m : Master) (f : Meaning) (k : List ℕ) (t : Side) (h : Heard)
+heard-seen : (m : Master) (f : Meaning) (k : List ℕ) (t : Side) (h : Option Accepted)
     → taken_of m (on_heard m f t h) ≡ lists.hear_linked m.busy (end_of m.side) (frame_of f k) (heard_of m.side t h)
 unfolding accepts
-heard-seen m f k t Irrecoverable = refl
-heard-seen m f k t (Accepted confirmed handed) = rw (rnr_seen f k)
+heard-seen m f k t None = refl
+heard-seen m f k t (Some a) = rw (rnr_seen f k)
 
 -- a response in time from the station that was ordered
 pub hears-seen : (m : Master) (f : Meaning) (k : List ℕ) → Right m.side → frame_refusal f k ≡ 0

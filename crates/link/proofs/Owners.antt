@@ -14,7 +14,7 @@ use Rattle.side.specs.Side.{cleared, Arrays}
 use Rattle.side.specs.Right.{address_wrong}
 use Rattle.side.specs.Slot.{put_refusal, with_held, put_of, take_refusal, emptied, take_of, laid, room_refusal}
 use Rattle.side.specs.declared.Side.{Side}
-use Rattle.side.specs.declared.answer.Line.{Line}
+use Rattle.frame.specs.declared.Line.{Line}
 use Rattle.side.specs.declared.answer.News.{News}
 use Rattle.side.proofs.Parts.{take_fits}
 use Rattle.slave.specs.Slave as slave

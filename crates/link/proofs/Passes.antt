@@ -20,8 +20,8 @@ use Rattle.side.specs.Rule.{count_rule, is_rnr}
 use Rattle.side.specs.Say.{status, informs, says_held, says}
 use Rattle.side.specs.Promises.{Right}
 use Rattle.side.specs.declared.Side.{Side}
-use Rattle.side.specs.declared.rule.Heard.{Heard}
-use Rattle.side.specs.declared.rule.Heard.TheVariants.{Irrecoverable, Accepted}
+use Rattle.std.specs.Prelude.{Option, None, Some}
+use Rattle.side.specs.declared.rule.Accepted.{Accepted}
 use Rattle.side.specs.declared.say.Saying.{Saying}
 use Rattle.side.proofs.Parts.{parts}
 use Rattle.side.proofs.Keeps.{keeps as side-keeps}
@@ -91,10 +91,10 @@ ndm_passes s Disc = refl
 ndm_passes s Ua = refl
 ndm_passes s Frmr = refl
 
-heard_passes : (s : Slave) (f : Meaning) (t : Side) (h : Heard) → Right t → t.held ≡ s.side.held → Passes s (on_heard s f t h)
+heard_passes : (s : Slave) (f : Meaning) (t : Side) (h : Option Accepted) → Right t → t.held ≡ s.side.held → Passes s (on_heard s f t h)
 unfolding responds frame_refusal counts_refusal information_refusal none_refusal
-heard_passes s f t Irrecoverable r e = refl
-heard_passes s f t (Accepted confirmed handed) r e = rw (← e) (says_passes (not (is_rnr f)) t r)
+heard_passes s f t None r e = refl
+heard_passes s f t (Some a) r e = rw (← e) (says_passes (not (is_rnr f)) t r)
 
 pub response_passes : (s : Slave) (f : Meaning) (k : List ℕ) → Right s.side → frame_refusal f k ≡ 0 → Passes s (moved s f k)
 unfolding moved in_nrm

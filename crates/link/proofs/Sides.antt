@@ -22,7 +22,7 @@ use Rattle.frame.proofs.Messages.{message_right}
 use Rattle.side.specs.Side.{cleared, dropped, restarted, synchronised}
 use Rattle.side.specs.Right.{side_wrong}
 use Rattle.side.specs.Slot.{full, room, put_refusal, with_held, take_refusal, emptied, laid}
-use Rattle.side.specs.Rule.{ack, seen, released, advanced, filled_with, on_nr, not_taken, hand_over, on_i, count_rule, is_rnr}
+use Rattle.side.specs.Rule.{ack, seen, released, advanced, filled_with, accepted, on_nr, not_taken, hand_over, on_i, count_rule, is_rnr}
 use Rattle.side.specs.Say.{status, informs, says_held, says}
 use Rattle.side.specs.Promises.{Right}
 use Rattle.side.specs.declared.Side.{Side}
@@ -30,8 +30,8 @@ use Rattle.side.specs.declared.rule.Ack.{Ack}
 use Rattle.side.specs.declared.rule.Ack.TheVariants.{ConfirmsNothing, Confirms, Astray}
 use Rattle.side.specs.declared.rule.Seen.{Seen}
 use Rattle.side.specs.declared.rule.Seen.TheVariants.{New, Duplicate, Strange}
-use Rattle.side.specs.declared.rule.Heard.{Heard}
-use Rattle.side.specs.declared.rule.Heard.TheVariants.{Irrecoverable, Accepted}
+use Rattle.std.specs.Prelude.{Option, None, Some}
+use Rattle.side.specs.declared.rule.Accepted.{Accepted}
 use Rattle.side.specs.declared.rule.Hearing.{Hearing}
 use Rattle.side.specs.declared.say.Saying.{Saying}
 use Rattle.side.proofs.Parts.{parts}
@@ -124,9 +124,9 @@ seen_of Duplicate = lists.duplicate
 seen_of Strange = lists.strange
 
 -- what comes of a frame: s is the side before it, t the side after it; the sizes told are those of the message handed over and of the one confirmed
-abbrev pub heard_of : Side → Side → Heard → lists.Heard
-heard_of s t Irrecoverable = irrecoverable
-heard_of s t (Accepted confirmed handed) = heard (end_of t) (message t.incoming handed) (message s.held confirmed)
+abbrev pub heard_of : Side → Side → Option Accepted → lists.Heard
+heard_of s t None = irrecoverable
+heard_of s t (Some a) = heard (end_of t) (message t.incoming a.handed) (message s.held a.confirmed)
 
 ack-seen : (s : Side) (nr : ReceiveCount) → lists.ack rules (end_of s) nr.0 ≡ ack_of (ack s nr)
 unfolding ack
@@ -180,7 +180,7 @@ unfolding hand_over
 hand_seen m confirmed s t e = rw (room-seen t m e, full-seen t) (go (full t) refl)
   where
     go : (b : Bool) → full t ≡ b
-        → let h = pick {A = Hearing} (not b) (record { heard = Accepted confirmed (length m); side = filled_with m (advanced t) }) (not_taken confirmed t) in
+        → let h = pick {A = Hearing} (not b) (record { heard = accepted confirmed (length m); side = filled_with m (advanced t) }) (not_taken confirmed t) in
         heard_of s h.side h.heard ≡ lists.on_new m (end_of t) (message s.held confirmed) b
     go true f = refl
     go false f = λ i. heard (filled_seen m t e f i) (laid-message m (drop (length m) t.incoming) e i) (message s.held confirmed)

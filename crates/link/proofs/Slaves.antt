@@ -12,8 +12,8 @@ use Rattle.side.specs.Rule.{count_rule, is_rnr}
 use Rattle.side.specs.Say.{says}
 use Rattle.side.specs.Promises.{Right}
 use Rattle.side.specs.declared.Side.{Side}
-use Rattle.side.specs.declared.rule.Heard.{Heard}
-use Rattle.side.specs.declared.rule.Heard.TheVariants.{Irrecoverable, Accepted}
+use Rattle.std.specs.Prelude.{Option, None, Some}
+use Rattle.side.specs.declared.rule.Accepted.{Accepted}
 use Rattle.side.specs.declared.say.Saying.{Saying}
 use Rattle.slave.specs.Step.{in_ndm, in_nrm, responds, on_heard, moved_in, moved}
 use Rattle.slave.specs.declared.Mode.{Mode}
@@ -44,16 +44,16 @@ ndm_seen s Disc m r = refl
 ndm_seen s Ua m r = refl
 ndm_seen s Frmr m r = refl
 
-heard-step : (s : Slave) (f : Meaning) (m : List ℕ) (t : Side) (h : Heard) → t.held ≡ s.side.held
+heard-step : (s : Slave) (f : Meaning) (m : List ℕ) (t : Side) (h : Option Accepted) → t.held ≡ s.side.held
     → answer_of s (on_heard s f t h) ≡ lists.step_nrm rules (not (lists.is_rnr (frame_of f m))) (end_of s.side) (heard_of s.side t h)
 unfolding responds
-heard-step s f m t Irrecoverable e = refl
-heard-step s f m t (Accepted confirmed handed) e =
+heard-step s f m t None e = refl
+heard-step s f m t (Some a) e =
     rw (rnr_seen f m) (λ i. record {
       slave = record { mode = lists.NRM; end = said-seen (not (is_rnr f)) t i };
       response = said i;
-      handed = message (says_incoming (not (is_rnr f)) t i) handed;
-      confirmed = message s.side.held confirmed;
+      handed = message (says_incoming (not (is_rnr f)) t i) a.handed;
+      confirmed = message s.side.held a.confirmed;
     })
   where
     x : Saying

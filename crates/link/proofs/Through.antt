@@ -14,10 +14,10 @@ use Rattle.side.specs.Given.{Given, giving, size_given}
 use Rattle.side.specs.Rule.{count_rule}
 use Rattle.side.specs.Slot.{laid}
 use Rattle.side.specs.declared.Side.{Side}
-use Rattle.side.specs.declared.answer.Line.{Line}
+use Rattle.frame.specs.declared.Line.{Line}
 use Rattle.side.specs.declared.answer.News.{News}
-use Rattle.side.specs.declared.rule.Heard.{Heard}
-use Rattle.side.specs.declared.rule.Heard.TheVariants.{Irrecoverable, Accepted}
+use Rattle.std.specs.Prelude.{Option, None, Some}
+use Rattle.side.specs.declared.rule.Accepted.{Accepted}
 use Rattle.slave.specs.Slave.{slave_wrong}
 use Rattle.slave.specs.Step.{in_ndm, responds, on_heard, in_nrm, moved_in, moved, step_refusal, step_of}
 use Rattle.slave.specs.declared.Mode.{Mode as SlaveMode}
@@ -85,10 +85,10 @@ module _ (s : Slave) (f : Meaning) (k : List ℕ) where
   ndm_address Ua = refl
   ndm_address Frmr = refl
 
-  heard_address : (t : Side) (h : Heard) → (on_heard s f t h).line.address ≡ s.address
+  heard_address : (t : Side) (h : Option Accepted) → (on_heard s f t h).line.address ≡ s.address
   unfolding responds
-  heard_address t Irrecoverable = refl
-  heard_address t (Accepted confirmed handed) = refl
+  heard_address t None = refl
+  heard_address t (Some a) = refl
 
   pub moved_address : (moved s f k).line.address ≡ s.address
   unfolding moved in_nrm

@@ -11,8 +11,8 @@ use Rattle.side.specs.Right.{address_wrong}
 use Rattle.side.specs.Rule.{count_rule}
 use Rattle.side.specs.declared.Side.{Side}
 use Rattle.side.specs.declared.answer.Change.TheVariants.{Same}
-use Rattle.side.specs.declared.rule.Heard.{Heard}
-use Rattle.side.specs.declared.rule.Heard.TheVariants.{Irrecoverable, Accepted}
+use Rattle.std.specs.Prelude.{Option, None, Some}
+use Rattle.side.specs.declared.rule.Accepted.{Accepted}
 use Rattle.side.proofs.Calls.{refusing_keeps}
 use Rattle.slave.specs.Slave as slave
 use Rattle.slave.specs.Step as slave-step
@@ -50,10 +50,10 @@ module _ (s : Slave) where
   ndm_kept Ua = refl
   ndm_kept Frmr = refl
 
-  heard-kept : (f : Meaning) (t : Side) (h : Heard) → KeptSlave (slave-step.on_heard s f t h).slave
+  heard-kept : (f : Meaning) (t : Side) (h : Option Accepted) → KeptSlave (slave-step.on_heard s f t h).slave
   unfolding responds
-  heard-kept f t Irrecoverable = refl
-  heard-kept f t (Accepted confirmed handed) = refl
+  heard-kept f t None = refl
+  heard-kept f t (Some a) = refl
 
   moved-kept : (f : Meaning) (k : List ℕ) → KeptSlave (moved s f k).slave
   unfolding moved in_nrm
@@ -94,10 +94,10 @@ module _ (m : Master) where
       go Connecting = record { address = refl; limit = refl }
       go Linked = record { address = refl; limit = refl }
 
-  onheard_kept : (f : Meaning) (t : Side) (h : Heard) → KeptMaster m (on_heard m f t h).master
+  onheard_kept : (f : Meaning) (t : Side) (h : Option Accepted) → KeptMaster m (on_heard m f t h).master
   unfolding accepts
-  onheard_kept f t Irrecoverable = record { address = refl; limit = refl }
-  onheard_kept f t (Accepted confirmed handed) = record { address = refl; limit = refl }
+  onheard_kept f t None = record { address = refl; limit = refl }
+  onheard_kept f t (Some a) = record { address = refl; limit = refl }
 
   hears-kept : (f : Meaning) (k : List ℕ) → KeptMaster m (hears m f k).master
   unfolding hears hear_disconnecting hear_connecting hear_linked

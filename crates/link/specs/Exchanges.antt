@@ -1,7 +1,7 @@
 -- The exchanges of a run of the code's calls, and which of them come through whole.
 use Rattle.std.specs.Prelude.{ℕ, List, [], ◌∷◌, length}
 use Rattle.frame.specs.Answer.{Answer, gives, refuses}
-use Rattle.side.specs.declared.answer.Line.{Line}
+use Rattle.frame.specs.declared.Line.{Line}
 use Rattle.master.specs.Order.{order_of}
 use Rattle.master.specs.Response.{Report, brings, silent, response_of}
 use Rattle.master.specs.declared.Master.{Master}

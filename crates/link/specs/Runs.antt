@@ -8,7 +8,7 @@ use Rattle.frame.specs.declared.Meaning.{Meaning}
 use Rattle.side.specs.Given.{Given}
 use Rattle.side.specs.Side.{Arrays}
 use Rattle.side.specs.declared.answer.Change.TheVariants.{Same}
-use Rattle.side.specs.declared.answer.Line.{Line}
+use Rattle.frame.specs.declared.Line.{Line}
 use Rattle.side.specs.declared.answer.News.{News}
 use Rattle.slave.specs.Slave as slave
 use Rattle.slave.specs.Step.{step_of, step_bytes}

@@ -1,4 +1,3 @@
 -- The lemmas of this program's proofs.
 pub mod Known
-pub mod Holding
 pub mod Whole

@@ -1,16 +1,14 @@
 -- What was read lists as the whole input does.
 -- Assumes nothing.
-use Rattle.std.proofs.Common.{◌≡◌, ℕ, ◌<◌, ◌≤◌, Bool, true, false, nat_lt, List, length, take, refl, sym, ◌∙◌, ap, inl, inr, Option, Result, None, Some, IfSome, arith}
+use Rattle.std.proofs.Common.{◌≡◌, ℕ, ◌<◌, ◌≤◌, Bool, true, false, nat_lt, List, length, take, sym, ◌∙◌, ap, inl, inr, refl, Option, Result, Ok, Err, None, Some, Bor, IfSome, arith}
 use Rattle.std.proofs.lemmas.Grind.{common_steps}
 use borrow.Author.Tests.{ltb-true, ltb-false}
 use Rattle.listing.specs.Listing.{listing}
 use Rattle.listing.proofs.Listings.{listing_long}
-use Rattle.list.specs.declared.Input.{Input}
-use Rattle.list.specs.declared.Input.TheVariants.{Bytes, Failed}
 use Rattle.list.specs.Streams.{Reads, Answers, Runs}
 
 -- one byte past the longest capture decides
-pub same_listing : (xs : List ℕ) (n : ℕ) → 65536 < n → listing (take n xs) ≡ listing xs
+same_listing : (xs : List ℕ) (n : ℕ) → 65536 < n → listing (take n xs) ≡ listing xs
 same_listing xs n h = go (nat_lt n (length xs)) refl
   where
     longer : n < length xs → 65536 < length (take n xs)
@@ -23,10 +21,10 @@ same_listing xs n h = go (nat_lt n (length xs)) refl
     go true e = let l = ltb-true n (length xs) e in listing_long (take n xs) (longer l) ∙ sym (listing_long xs (omega arith))
     go false e = ap listing (shorter (ltb-false n (length xs) e))
 
-pub runs : {T E : Type 0} (told : Result T E) (known : Option (List ℕ)) (input : Input) (bytes : List ℕ) (to to' errors errors' : Option (List ℕ)) → 65536 < length bytes → IfSome known (Reads input bytes)
-    → Answers told input bytes to to' errors errors' → IfSome known (Runs told to to' errors errors')
-runs told None input bytes to to' errors errors' h r a = tt
-runs told (Some xs) (Bytes size) bytes to to' errors errors' h r a =
-    let same : listing (take size bytes) ≡ listing xs = ap listing r ∙ same_listing xs (length bytes) h in
+pub runs : {T E E' : Type 0} (told : Result T E) (known : Option (List ℕ)) (capture : Result (Bor (List ℕ)) E') (room : ℕ) (to to' errors errors' : Option (List ℕ))
+    → IfSome known (Reads room capture) → Answers told capture to to' errors errors' → 65536 < room → IfSome known (Runs told to to' errors errors')
+runs told None capture room to to' errors errors' r a h = tt
+runs told (Some xs) (Ok capture) room to to' errors errors' r a h =
+    let same : listing capture.now ≡ listing xs = ap listing r ∙ same_listing xs room h in
     inl (rw same at a)
-runs told (Some xs) Failed bytes to to' errors errors' h r a = inr a
+runs told (Some xs) (Err e) room to to' errors errors' r a h = inr a

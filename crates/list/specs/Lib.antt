@@ -1,3 +1,2 @@
 -- The definitions that the contracts of this program cite.
-pub mod Sizes
 pub mod Streams

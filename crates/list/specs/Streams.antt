@@ -1,17 +1,14 @@
 -- What is read and written, where a reader's or a writer's bytes are known.
-use Rattle.std.specs.Prelude.{ℕ, ◌≡◌, ◌⊎◌, List, [], length, take, Result, MatchResult, Option}
+use Rattle.std.specs.Prelude.{ℕ, ◌≡◌, ◌⊎◌, List, take, Result, Ok, Err, MatchResult, Option}
+use Rattle.std.specs.Borrow.{Bor}
 use Rattle.std.specs.Io.KnownBytes.{Appends, Keeps}
-use Rattle.listing.specs.declared.Listed.{Listed}
-use Rattle.listing.specs.declared.Listed.TheVariants.{Text, Refused}
 use Rattle.listing.specs.Listing.{listing}
 use Rattle.listing.specs.Text.{ascii}
-use Rattle.list.specs.declared.Input.{Input}
-use Rattle.list.specs.declared.Input.TheVariants.{Bytes, Failed}
 
 -- the bytes that were read are the first of the input, as many as there is room for
-abbrev pub Reads : Input → List ℕ → List ℕ → Type 0
-Reads (Bytes size) bytes input = take size bytes ≡ take (length bytes) input
-Reads Failed bytes input = Unit {0}
+abbrev pub Reads : {E : Type 0} → ℕ → Result (Bor (List ℕ)) E → List ℕ → Type 0
+Reads room (Ok capture) input = capture.now ≡ take room input
+Reads room (Err e) input = Unit {0}
 
 -- known bytes grew by a first part of the text, none or all of it included
 abbrev pub GrowsByPart : Option (List ℕ) → Option (List ℕ) → List ℕ → Type 0
@@ -20,11 +17,6 @@ GrowsByPart old new text = (n : ℕ) × Appends old new (take n text)
 -- known bytes grew by the text, or by a first part of it where a write failed
 abbrev pub Writes : {T E : Type 0} → Result T E → Option (List ℕ) → Option (List ℕ) → List ℕ → Type 0
 Writes r old new text = MatchResult r (λ _. Appends old new text) (λ _. GrowsByPart old new text)
-
--- the text that a listing left at the front of the bytes lent to it
-abbrev pub text_in : Listed → List ℕ → List ℕ
-text_in (Text size) bytes = take size bytes
-text_in (Refused n) bytes = []
 
 -- what is told where the input cannot be read
 abbrev pub unread : List ℕ
@@ -45,9 +37,9 @@ abbrev pub Unread : {T E : Type 0} → Result T E → Option (List ℕ) → Opti
 Unread told to to' errors errors' = Keeps to to' × Writes told errors errors' unread
 
 -- what the program does with what was read
-abbrev pub Answers : {T E : Type 0} → Result T E → Input → List ℕ → Option (List ℕ) → Option (List ℕ) → Option (List ℕ) → Option (List ℕ) → Type 0
-Answers told (Bytes size) bytes to to' errors errors' = ListsOn told (take size bytes) to to' errors errors'
-Answers told Failed bytes to to' errors errors' = Unread told to to' errors errors'
+abbrev pub Answers : {T E E' : Type 0} → Result T E → Result (Bor (List ℕ)) E' → Option (List ℕ) → Option (List ℕ) → Option (List ℕ) → Option (List ℕ) → Type 0
+Answers told (Ok capture) to to' errors errors' = ListsOn told capture.now to to' errors errors'
+Answers told (Err e) to to' errors errors' = Unread told to to' errors errors'
 
 -- the whole program, at a known input
 abbrev pub Runs : {T E : Type 0} → Result T E → Option (List ℕ) → Option (List ℕ) → Option (List ℕ) → Option (List ℕ) → List ℕ → Type 0

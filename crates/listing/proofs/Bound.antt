@@ -8,10 +8,10 @@ use mathlib.Core.List.Memᴰ.{tail as there}
 use mathlib.Core.List.{List, [], ◌∷◌, ◌++◌}
 use native.Mathlib.Omega.{arith}
 use lib.Dec.{eqb, ltb}
-use lib.ListN.{length, get_or, drop, length-append}
+use lib.ListN.{length, get_or, take, drop, length-append}
 use borrow.Author.Tests.{ltb-true, ltb-false, eqb-true, le-ltb}
 use Rattle.frame.specs.Pick.{pick}
-use Rattle.frame.specs.Answer.{Answer, gives, refuses, Among, Lists}
+use Rattle.frame.specs.Answer.{Answer, gives, refuses, answer, Among, Lists}
 use Rattle.frame.specs.Control.{count_refusal, counts_refusal, byte_of, encode_of, decode_of}
 use Rattle.frame.specs.Refusal.{address_refusal, none_refusal, information_refusal}
 use Rattle.frame.specs.declared.Meaning.{Meaning}
@@ -24,9 +24,12 @@ use Rattle.capture.specs.Record.{with_information, with_control, frame_in, Entry
 use Rattle.capture.specs.Promises.{record_numbers}
 use Rattle.capture.proofs.Standing.{Stands, ends, fails, waits, speaks, stands}
 use Rattle.capture.proofs.Numbers.{numbers}
-use Rattle.listing.specs.declared.Listed.TheVariants.{Text}
+use Rattle.std.proofs.Common.{Result, Ok, IsOk}
+use lib.Seq.{take-append_seam}
+use Rattle.frame.specs.declared.number.Refusal.{Refusal}
+use Rattle.listing.specs.declared.text.Text.{Text}
 use Rattle.listing.specs.Decimal.{decimal}
-use Rattle.listing.specs.Listing.{name, ns_field, nr_field, frame_line, entry_line, refused_line, line_of, follow, lines_from, lines_of, header, listing, output_refusal, list_of, listed}
+use Rattle.listing.specs.Listing.{name, ns_field, nr_field, frame_line, entry_line, refused_line, line_of, follow, lines_from, lines_of, header, listing, output_refusal, list_of, list_bytes}
 use Rattle.listing.specs.Promises.{Suffices, NeverRefused}
 use Rattle.listing.proofs.Digits.{decimal_one, decimal_more}
 use Rattle.listing.proofs.Lines.{lines_at, Sofar}
@@ -240,10 +243,10 @@ suffices capture =
     (λ t. let lines = lines_short capture (ltb-false 65536 (length capture) t) in omega (arith, length-append header (lines_of capture)))
 
 -- the listing on its way stays far below the largest numbers
-pub sofar_short : {capture : List ℕ} {start : ℕ} {old new : List ℕ} {at place number : ℕ} → Sofar capture start old new at place number
-    → length capture ≤ 65536 → start < 100 → (at < 1000000) × (number < 100000)
+pub sofar_short : {capture : List ℕ} {old new : Text} {place number : ℕ} → Sofar capture old new place number
+    → length capture ≤ 65536 → old.at < 100 → (new.at < 1000000) × (number < 100000)
 sofar_short {capture} {place = place} {number} s h k =
-    let put = s.done.place in
+    let put = s.done.put.place in
     let whole = ap length s.whole in
     let lines = lines_short capture h in
     let inside = s.inside in
@@ -252,8 +255,23 @@ sofar_short {capture} {place = place} {number} s h k =
 
 pub never_refused : NeverRefused
 unfolding list_of output_refusal
-never_refused capture room answer h e =
+never_refused capture room given h e =
     let few = suffices capture in
     let fits : length (listing capture) ≤ room = omega arith in
-    let taken : listed answer ≡ gives (length (listing capture)) = rw (le-ltb room (length (listing capture)) fits) at e in
-    loses_nothing answer (Text (length (listing capture))) taken
+    let taken : answer given ≡ gives (length (listing capture)) = rw (le-ltb room (length (listing capture)) fits) at e in
+    loses_nothing given (Ok (length (listing capture))) taken
+
+-- it is given whole, and stands at the front of the lent bytes
+module _ (capture out : List ℕ) {new : List ℕ} (given : Result ℕ Refusal) (is-answer : answer given ≡ list_of capture (length out)) (is-bytes : new ≡ list_bytes capture out)
+    (room : 283838 ≤ length out) where
+  pub given_ok : IsOk given
+  given_ok = rw (never_refused capture (length out) given room is-answer) refl
+
+  pub given_whole : {size : ℕ} → given ≡ Ok size → (size ≤ length out) × (take size new ≡ listing capture)
+  unfolding list_bytes output_refusal
+  given_whole {size} e =
+      let few = suffices capture in
+      let fits : length (listing capture) ≤ length out = omega arith in
+      let ok : given ≡ Ok (length (listing capture)) = never_refused capture (length out) given room is-answer in
+      let same : size ≡ length (listing capture) = cc in
+      (omega arith, rw (is-bytes, le-ltb (length out) (length (listing capture)) fits, same) (take-append_seam (listing capture) (drop (length (listing capture)) out)))

@@ -10,9 +10,10 @@ use Rattle.capture.specs.Record.{Step, record_at}
 use Rattle.capture.proofs.Forms.{record_end}
 use Rattle.capture.proofs.Standing.{Stands, ends, fails, waits, speaks, stands}
 use Rattle.listing.specs.Listing.{line_of, follow, lines_from, lines_of}
-use Rattle.listing.specs.Put.{Put, place_after}
+use Rattle.listing.specs.declared.text.Text.{Text}
+use Rattle.listing.specs.Put.{Puts, place_after}
 use Rattle.listing.specs.Promises.{Bounds}
-use Rattle.listing.proofs.Putting.{put_on, put_as, put_none}
+use Rattle.listing.proofs.Putting.{puts_on, puts_as, puts_none}
 
 -- what follows is the same under two bounds where it is so from every later place
 follow_same : {capture : List ℕ} {at : ℕ} {x : Answer Step} → Stands capture at x → (f g : ℕ → List ℕ)
@@ -74,21 +75,21 @@ pub further : (capture : List ℕ) (place : ℕ) {x : Answer Step} → x ≡ rec
 further capture place e h = rw e (let later = (far (stands capture place) h).0 in omega arith)
 
 -- how far the listing has come: text that was put, and the lines that are left, are all lines of the capture
-pub record Sofar (capture : List ℕ) (start : ℕ) (old new : List ℕ) (at place number : ℕ) : Type 0 where
+pub record Sofar (capture : List ℕ) (old new : Text) (place number : ℕ) : Type 0 where
   pub text : List ℕ
-  pub done : Put text start old new at
+  pub done : Puts text old new
   pub inside : place ≤ length capture
   pub counted : number ≤ place + 1
   pub whole : text ++ lines_at capture number place ≡ lines_of capture
 
-module _ {capture : List ℕ} {start : ℕ} {old : List ℕ} where
-  pub sofar_none : Sofar capture start old old start 0 1
+module _ {capture : List ℕ} {old : Text} where
+  pub sofar_none : Sofar capture old old 0 1
   unfolding lines_of
-  sofar_none = record { text = []; done = put_none start old; inside = omega arith; counted = omega arith; whole = let e : length capture - 0 ≡ length capture = omega arith in rw e }
+  sofar_none = record { text = []; done = puts_none old; inside = omega arith; counted = omega arith; whole = let e : length capture - 0 ≡ length capture = omega arith in rw e }
 
-  pub sofar-line : {new new' : List ℕ} {at at' place place' number : ℕ} {found : Answer Step} → Sofar capture start old new at place number → place < length capture
-      → found ≡ record_at capture place → Put (line_of number found) at new new' at' → place' ≡ place_after found (length capture)
-      → Sofar capture start old new' at' place' (number + 1)
+  pub sofar-line : {new new' : Text} {place place' number : ℕ} {found : Answer Step} → Sofar capture old new place number → place < length capture
+      → found ≡ record_at capture place → Puts (line_of number found) new new' → place' ≡ place_after found (length capture)
+      → Sofar capture old new' place' (number + 1)
   sofar-line {place = place} {place'} {number} s h f p e =
       let line = line_of number (record_at capture place) in
       let next : place' ≡ place_after (record_at capture place) (length capture) = e ∙ ap (λ (x : Answer Step). place_after x (length capture)) f in
@@ -96,12 +97,12 @@ module _ {capture : List ℕ} {start : ℕ} {old : List ℕ} where
       let counted = s.counted in
       record {
         text = s.text ++ line;
-        done = put_on s.done (put_as (ap (λ (x : Answer Step). line_of number x) f) p);
+        done = puts_on s.done (puts_as (ap (λ (x : Answer Step). line_of number x) f) p);
         inside = omega arith;
         counted = omega arith;
         whole = rw (next, append_assoc, ← lines_step capture number place h) s.whole;
       }
 
-  pub sofar_all : {new : List ℕ} {at place number : ℕ} → Sofar capture start old new at place number → length capture ≤ place → Put (lines_of capture) start old new at
+  pub sofar_all : {new : Text} {place number : ℕ} → Sofar capture old new place number → length capture ≤ place → Puts (lines_of capture) old new
   sofar_all {place = place} {number} s h =
-      put_as (sym (append-nil s.text) ∙ ap (λ (l : List ℕ). s.text ++ l) (sym (lines_past (length capture - place) capture number place h)) ∙ s.whole) s.done
+      puts_as (sym (append-nil s.text) ∙ ap (λ (l : List ℕ). s.text ++ l) (sym (lines_past (length capture - place) capture number place h)) ∙ s.whole) s.done

@@ -19,17 +19,32 @@ pub listing_lines : (capture : List ℕ) → length capture ≤ 65536 → listin
 unfolding listing
 listing_lines capture h = rw (le-ltb 65536 (length capture) h)
 
-module _ (capture out : List ℕ) {size : ℕ} (long : size ≡ 0 + length (listing capture)) where
-  pub list_refused : length out < size → (refuses 11 ≡ list_of capture (length out)) × (out ≡ list_bytes capture out)
-  unfolding list_of list_bytes output_refusal
-  list_refused h = let small = lt-ltb (length out) (length (listing capture)) (omega arith) in (rw small, rw small)
+-- refused, and the lent bytes stay
+pub refused_answer : (capture : List ℕ) (room : ℕ) {old new : List ℕ} {size : ℕ} → Put (listing capture) 0 old new size → room < size → refuses 11 ≡ list_of capture room
+unfolding list_of output_refusal
+refused_answer capture room p h = let place = p.place in let small = lt-ltb room (length (listing capture)) (omega arith) in rw small
 
-  pub list_taken : {new : List ℕ} {after : ℕ} → size ≤ length out → Put (listing capture) 0 out new after
-      → (gives size ≡ list_of capture (length out)) × (new ≡ list_bytes capture out)
-  unfolding list_of list_bytes output_refusal
-  list_taken h p =
-      let room = le-ltb (length out) (length (listing capture)) (omega arith) in
-      let same : size ≡ length (listing capture) = omega arith in
-      let start : 0 + length (listing capture) ≡ length (listing capture) = omega arith in
-      let put = sets-eq (listing capture) out 0 (omega arith) in
-      (rw (room, same), rw room (p.bytes ∙ (rw start at put)))
+pub refused_bytes : (capture out : List ℕ) {old new : List ℕ} {size : ℕ} → Put (listing capture) 0 old new size → length out < size → out ≡ list_bytes capture out
+unfolding list_bytes output_refusal
+refused_bytes capture out p h = let place = p.place in let small = lt-ltb (length out) (length (listing capture)) (omega arith) in rw small
+
+-- written, where the size that was measured before is no greater
+pub taken_answer : (capture out : List ℕ) {old mid new : List ℕ} {size after : ℕ} → Put (listing capture) 0 old mid size → size ≤ length out
+    → Put (listing capture) 0 out new after → gives after ≡ list_of capture (length out)
+unfolding list_of output_refusal
+taken_answer capture out {after = after} p h q =
+    let place = p.place in
+    let room = le-ltb (length out) (length (listing capture)) (omega arith) in
+    let start : 0 + length (listing capture) ≡ length (listing capture) = omega arith in
+    let same : after ≡ length (listing capture) = q.place ∙ start in
+    rw (room, same)
+
+pub taken_bytes : (capture out : List ℕ) {old mid new : List ℕ} {size after : ℕ} → Put (listing capture) 0 old mid size → size ≤ length out
+    → Put (listing capture) 0 out new after → new ≡ list_bytes capture out
+unfolding list_bytes output_refusal
+taken_bytes capture out p h q =
+    let place = p.place in
+    let room = le-ltb (length out) (length (listing capture)) (omega arith) in
+    let start : 0 + length (listing capture) ≡ length (listing capture) = omega arith in
+    let put = sets-eq (listing capture) out 0 (omega arith) in
+    rw room (q.bytes ∙ (rw start at put))

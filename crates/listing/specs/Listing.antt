@@ -7,8 +7,6 @@ use Rattle.frame.specs.declared.Meaning.{Meaning}
 use Rattle.frame.specs.declared.Meaning.TheVariants.{I, Rr, Rnr, Snrm, Disc, Ua, Frmr}
 use Rattle.capture.specs.declared.records.Frame.{Frame}
 use Rattle.capture.specs.Record.{Entry, order, response, silence, Step, entry, end, record_at}
-use Rattle.listing.specs.declared.Listed.{Listed}
-use Rattle.listing.specs.declared.Listed.TheVariants.{Text, Refused}
 use Rattle.listing.specs.Text.{ascii}
 use Rattle.listing.specs.Decimal.{decimal}
 
@@ -119,7 +117,3 @@ list_bytes capture out =
     pick (eqb (output_refusal (listing capture) (length out)) 0)
     (listing capture ++ drop (length (listing capture)) out)
     out
-
-abbrev pub listed : Listed → Answer ℕ
-listed (Text size) = gives size
-listed (Refused n) = refuses n

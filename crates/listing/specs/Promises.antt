@@ -1,11 +1,10 @@
 -- What is promised of this room beside each function's contract. The proofs stand in proofs/AnExample, Numbers, LosesNothing, Lines, Bound, Least and Digits.
-use Rattle.std.specs.Prelude.{ℕ, zero, suc, ◌+◌, ◌*◌, ◌-◌, ◌≤◌, ◌≡◌, List, [], ◌∷◌, length, get_or}
-use Rattle.frame.specs.Answer.{Lists}
-use Rattle.listing.specs.declared.Listed.{Listed}
-use Rattle.listing.specs.declared.Listed.TheVariants.{Text}
+use Rattle.std.specs.Prelude.{ℕ, zero, suc, ◌+◌, ◌*◌, ◌-◌, ◌≤◌, ◌≡◌, List, [], ◌∷◌, Result, Ok, length, get_or}
+use Rattle.frame.specs.Answer.{Lists, answer}
+use Rattle.frame.specs.declared.number.Refusal.{Refusal}
 use Rattle.listing.specs.Text.{ascii}
 use Rattle.listing.specs.Decimal.{decimal}
-use Rattle.listing.specs.Listing.{lines_from, header, listing, list_of, listed}
+use Rattle.listing.specs.Listing.{lines_from, header, listing, list_of}
 
 -- "A number outside a call's list is not given by that call."
 abbrev pub Numbers : Type 0
@@ -13,7 +12,7 @@ Numbers = (capture : List ℕ) (room : ℕ) → Lists (11 ∷ []) (list_of captu
 
 -- the definition that lists an answer's number and values loses nothing
 abbrev pub LosesNothing : Type 0
-LosesNothing = (a b : Listed) → listed a ≡ listed b → a ≡ b
+LosesNothing = (a b : Result ℕ Refusal) → answer a ≡ answer b → a ≡ b
 
 -- the number that digits in ASCII say, after one that came before them
 abbrev pub value : ℕ → List ℕ → ℕ
@@ -34,7 +33,7 @@ abbrev pub Suffices : Type 0
 Suffices = (capture : List ℕ) → length (listing capture) ≤ 283838
 
 abbrev pub NeverRefused : Type 0
-NeverRefused = (capture : List ℕ) (room : ℕ) (answer : Listed) → 283838 ≤ room → listed answer ≡ list_of capture room → answer ≡ Text (length (listing capture))
+NeverRefused = (capture : List ℕ) (room : ℕ) (given : Result ℕ Refusal) → 283838 ≤ room → answer given ≡ list_of capture room → given ≡ Ok (length (listing capture))
 
 -- n silences before other bytes
 unfoldable pub silences : ℕ → List ℕ → List ℕ

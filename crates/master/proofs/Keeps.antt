@@ -10,8 +10,8 @@ use Rattle.side.specs.Right.{side_wrong, address_wrong}
 use Rattle.side.specs.Slot.{put_of as side_put, take_of as side_take}
 use Rattle.side.specs.Rule.{count_rule}
 use Rattle.side.specs.declared.Side.{Side}
-use Rattle.side.specs.declared.rule.Heard.{Heard}
-use Rattle.side.specs.declared.rule.Heard.TheVariants.{Irrecoverable, Accepted}
+use Rattle.std.specs.Prelude.{Option, None, Some}
+use Rattle.side.specs.declared.rule.Accepted.{Accepted}
 use Rattle.side.proofs.Calls.{refusing_keeps}
 use Rattle.side.proofs.Keeps.{keeps as side-keeps, says_small}
 use Rattle.master.specs.Master.{limit_refusal, limit_wrong, outer_wrong, master_wrong, begun, on_side, make_refusal, make_of, put_of, take_of, restart_of, clear_of}
@@ -69,10 +69,10 @@ order_fits m tick room e =
     let small = (orders-kept m tick right.0).small in
     (small, omega arith)
 
-heard_right : (m : Master) (f : Meaning) (t : Side) (h : Heard) → Right m → side_wrong t ≡ 0 → Right (on_heard m f t h).master
+heard_right : (m : Master) (f : Meaning) (t : Side) (h : Option Accepted) → Right m → side_wrong t ≡ 0 → Right (on_heard m f t h).master
 unfolding accepts
-heard_right m f t Irrecoverable r e = with_side m _ _ m.side r (parts m r).1
-heard_right m f t (Accepted confirmed handed) r e = with_side m _ _ t r e
+heard_right m f t None r e = with_side m _ _ m.side r (parts m r).1
+heard_right m f t (Some j) r e = with_side m _ _ t r e
 
 hears_right : (q : Mode) (m : Master) (f : Meaning) (k : List ℕ) → frame_refusal f k ≡ 0 → Right m → Right (hears_in q m f k).master
 unfolding hear_disconnecting hear_connecting hear_linked

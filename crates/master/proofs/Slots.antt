@@ -7,8 +7,8 @@ use Rattle.side.specs.Given.{Given}
 use Rattle.side.specs.Side.{Slots}
 use Rattle.side.specs.Rule.{count_rule}
 use Rattle.side.specs.declared.Side.{Side}
-use Rattle.side.specs.declared.rule.Heard.{Heard}
-use Rattle.side.specs.declared.rule.Heard.TheVariants.{Irrecoverable, Accepted}
+use Rattle.std.specs.Prelude.{Option, None, Some}
+use Rattle.side.specs.declared.rule.Accepted.{Accepted}
 use Rattle.side.proofs.Calls.{refusing_keeps}
 use Rattle.side.proofs.Slots.{Lays, put_slots, take_slots, cleared_slots, restarted_slots, synchronised_slots, rule_slots, says_slots}
 use Rattle.master.specs.Master.{master_wrong, outer_wrong, put_of, take_of, restart_of, clear_of}
@@ -45,10 +45,10 @@ module _ {H J : List ℕ → Type 0} {T : ℕ → Type 0} where
   unfolding order_of orders
   master-order m tick room t a = refusing_keeps (Holds H J T) (order_refusal m room) m _ a (λ z. orders_hold m.mode m tick t a)
 
-  heard-holds : (m : Master) (f : Meaning) (t : Side) (h : Heard) → Holds H J T m → Slots H J t → Holds H J T (on_heard m f t h).master
+  heard-holds : (m : Master) (f : Meaning) (t : Side) (h : Option Accepted) → Holds H J T m → Slots H J t → Holds H J T (on_heard m f t h).master
   unfolding accepts
-  heard-holds m f t Irrecoverable a b = record { slots = a.slots; tick = a.tick }
-  heard-holds m f t (Accepted confirmed handed) a b = record { slots = b; tick = a.tick }
+  heard-holds m f t None a b = record { slots = a.slots; tick = a.tick }
+  heard-holds m f t (Some j) a b = record { slots = b; tick = a.tick }
 
   hears_hold : (q : Mode) (m : Master) (f : Meaning) (k : List ℕ) → Lays J k → Holds H J T m → Holds H J T (hears_in q m f k).master
   unfolding hear_disconnecting hear_connecting hear_linked

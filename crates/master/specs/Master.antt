@@ -2,15 +2,13 @@
 use Rattle.std.specs.Prelude.{ℕ, false, List, length, ◌==◌, nat_lt}
 use Rattle.frame.specs.Pick.{pick, ◌then◌}
 use Rattle.frame.specs.Refusal.{address_refusal}
-use Rattle.side.specs.Given.{Given, giving, refusing, lifted, size_given, done, taken}
+use Rattle.side.specs.Given.{Given, giving, refusing, lifted, size_given}
 use Rattle.side.specs.Side.{fresh, restarted, cleared}
 use Rattle.side.specs.Right.{side_wrong, address_wrong}
 use Rattle.side.specs.Slot.{laid, put_of as side_put, take_of as side_take}
 use Rattle.side.specs.declared.Side.{Side}
 use Rattle.master.specs.declared.Mode.TheVariants.{Disconnecting}
 use Rattle.master.specs.declared.Master.{Master}
-use Rattle.master.specs.declared.MasterDone.{MasterDone}
-use Rattle.master.specs.declared.MasterTake.{MasterTake}
 
 -- 15: "answer limit outside 1 to 65,535 ticks"
 unfoldable pub limit_refusal : ℕ → ℕ
@@ -32,7 +30,7 @@ master_wrong m = outer_wrong m.address m.limit then side_wrong m.side
 abbrev pub begun : Side → ℕ → ℕ → Master
 begun t l a = record { side = t; mode = Disconnecting; busy = false; waiting = false; tick = 0; limit = l; address = a }
 
--- the end that a refused making gives: its address and its limit are against 8 and 15
+-- the end that stands in the definition of a refused making, which gives none: its address and its limit are against 8 and 15
 abbrev pub blank : Master
 blank = begun fresh 0 0
 
@@ -48,14 +46,6 @@ on_side m t =
       limit = m.limit;
       address = m.address;
     }
-
--- the number and the values of each call, and the end
-abbrev pub done_given : MasterDone → Given (Unit {0}) Master
-done_given r = record { answer = done r.answer; end = r.master }
-
--- the same for take
-abbrev pub take_given : MasterTake → Given ℕ Master
-take_given r = record { answer = taken r.answer; end = r.master }
 
 -- "Making a link: 8, 15"
 unfoldable pub make_refusal : ℕ → ℕ → ℕ

@@ -1,21 +1,17 @@
 -- The master's order (01, "Master").
 use Rattle.std.specs.Prelude.{ℕ, Bool, true, false, not, List, length}
 use Rattle.frame.specs.Pick.{pick, ◌then◌}
-use Rattle.frame.specs.Answer.{Answer, gives, refuses}
 use Rattle.frame.specs.declared.Meaning.{Meaning}
 use Rattle.frame.specs.declared.Meaning.TheVariants.{Snrm, Disc}
 use Rattle.side.specs.Given.{Given, giving, refusing, size_given}
 use Rattle.side.specs.Slot.{laid, room_refusal, full}
 use Rattle.side.specs.Say.{says}
 use Rattle.side.specs.declared.Side.{Side}
-use Rattle.side.specs.declared.answer.Line.{Line}
+use Rattle.frame.specs.declared.Line.{Line}
 use Rattle.master.specs.Master.{master_wrong}
 use Rattle.master.specs.declared.Mode.{Mode}
 use Rattle.master.specs.declared.Mode.TheVariants.{Disconnecting, Connecting, Linked}
 use Rattle.master.specs.declared.Master.{Master}
-use Rattle.master.specs.declared.order.OrderAnswer.{OrderAnswer}
-use Rattle.master.specs.declared.order.OrderAnswer.TheVariants.{Orders, Refused}
-use Rattle.master.specs.declared.order.MasterOrder.{MasterOrder}
 use Rattle.master.specs.declared.order.Ordered.{Ordered}
 
 -- 17: "order asked for while one waits"
@@ -64,15 +60,6 @@ orders_in Linked m tick = in_linked m tick
 -- what an order that is not refused does
 unfoldable pub orders : Master → ℕ → Ordered
 orders m tick = orders_in m.mode m tick
-
--- the number and the values of each case: what goes on the line
-abbrev pub ordered : OrderAnswer → Answer Line
-ordered (Orders l) = gives l
-ordered (Refused n) = refuses n
-
--- the same for the whole result
-abbrev pub order_given : MasterOrder → Given Line Master
-order_given r = record { answer = ordered r.answer; end = r.master }
 
 -- an order gives what goes on the line
 unfoldable pub order_of : Master → ℕ → ℕ → Given Line Master

@@ -1,18 +1,14 @@
 -- What is promised of this room beside each function's contract. The proofs stand in proofs/Keeps, Blank, Numbers and LosesNothing.
-use Rattle.std.specs.Prelude.{◌≡◌, ℕ, List, [], ◌∷◌, ◌≢◌}
+use Rattle.std.specs.Prelude.{◌≡◌, ℕ, List, [], ◌∷◌, ◌≢◌, Result, Option}
 use Rattle.frame.specs.Answer.{Among, Lists}
+use Rattle.frame.specs.declared.number.Refusal.{Refusal}
 use Rattle.frame.specs.declared.Meaning.{Meaning}
-use Rattle.side.specs.Given.{refused}
-use Rattle.master.specs.Master.{master_wrong, blank, done_given, take_given, make_refusal, make_of, put_of, take_of, restart_of, clear_of}
-use Rattle.master.specs.Order.{ordered, order_given, order_of}
-use Rattle.master.specs.Response.{reported, response_given, response_of, silence_of}
+use Rattle.side.specs.Given.{refused, making}
+use Rattle.side.specs.declared.answer.News.{News}
+use Rattle.master.specs.Master.{master_wrong, blank, make_refusal, make_of, put_of, take_of, restart_of, clear_of}
+use Rattle.master.specs.Order.{order_of}
+use Rattle.master.specs.Response.{response_given, response_of, silence_of}
 use Rattle.master.specs.declared.Master.{Master}
-use Rattle.master.specs.declared.MasterDone.{MasterDone}
-use Rattle.master.specs.declared.MasterTake.{MasterTake}
-use Rattle.master.specs.declared.order.OrderAnswer.{OrderAnswer}
-use Rattle.master.specs.declared.order.MasterOrder.{MasterOrder}
-use Rattle.master.specs.declared.response.ResponseAnswer.{ResponseAnswer}
-use Rattle.master.specs.declared.response.MasterResponse.{MasterResponse}
 
 -- number 30 finds nothing wrong
 abbrev pub Right : Master → Type 0
@@ -29,7 +25,7 @@ pub record Keeps : Type 0 where
   pub restart : (m : Master) → Right m → Right (restart_of m).end
   pub clear : (m : Master) → Right m → Right (clear_of m).end
 
--- a refused making gives the blank end, which every call refuses with 30
+-- the definition of a refused making has the blank end, which every call refuses with 30
 pub record BlankRefused : Type 0 where
   pub make : (a l : ℕ) → (make_refusal a l ≢ 0) → (make_of a l).end ≡ blank
   pub put : (k : List ℕ) → put_of blank k ≡ refused 30 blank
@@ -52,11 +48,7 @@ pub record Numbers : Type 0 where
   pub restart : (m : Master) → Lists (30 ∷ []) (restart_of m).answer
   pub clear : (m : Master) → Lists (30 ∷ []) (clear_of m).answer
 
--- the definitions that list an answer's number and values lose nothing, and those of whole results neither
+-- the definitions that say what a making and a response give lose nothing; that of the other calls is side's `given`
 pub record LosesNothing : Type 0 where
-  pub ordered : (a b : OrderAnswer) → ordered a ≡ ordered b → a ≡ b
-  pub reported : (a b : ResponseAnswer) → reported a ≡ reported b → a ≡ b
-  pub done : (a b : MasterDone) → done_given a ≡ done_given b → a ≡ b
-  pub take : (a b : MasterTake) → take_given a ≡ take_given b → a ≡ b
-  pub order : (a b : MasterOrder) → order_given a ≡ order_given b → a ≡ b
-  pub response : (a b : MasterResponse) → response_given a ≡ response_given b → a ≡ b
+  pub made : (a b : Result Master Refusal) → making blank a ≡ making blank b → a ≡ b
+  pub response : (a b : Result (Option News) Refusal) (m k : Master) → response_given a m ≡ response_given b k → (a ≡ b) × (m ≡ k)

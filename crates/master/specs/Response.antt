@@ -1,8 +1,9 @@
 -- The response to an order, or the silence in its place (01, "Master", "Synchronising", "Late or strange responses").
-use Rattle.std.specs.Prelude.{ℕ, ◌+◌, ◌-◌, ◌%◌, ◌^◌, Bool, true, false, List, ◌==◌, nat_le}
+use Rattle.std.specs.Prelude.{ℕ, ◌+◌, ◌-◌, ◌%◌, ◌^◌, Bool, true, false, List, ◌==◌, nat_le, Result, Ok, Err, Option, None, Some}
 use Rattle.frame.specs.Pick.{pick, ◌then◌}
-use Rattle.frame.specs.Answer.{Answer, gives, refuses}
+use Rattle.frame.specs.Answer.{Answer, gives, refuses, number_of}
 use Rattle.frame.specs.Refusal.{frame_refusal}
+use Rattle.frame.specs.declared.number.Refusal.{Refusal}
 use Rattle.frame.specs.declared.Meaning.{Meaning}
 use Rattle.frame.specs.declared.Meaning.TheVariants.{I, Rr, Rnr, Snrm, Disc, Ua, Frmr}
 use Rattle.side.specs.Given.{Given, giving, refusing}
@@ -12,15 +13,11 @@ use Rattle.side.specs.declared.Side.{Side}
 use Rattle.side.specs.declared.answer.Change.{Change}
 use Rattle.side.specs.declared.answer.Change.TheVariants.{Same, Gained, Lost}
 use Rattle.side.specs.declared.answer.News.{News}
-use Rattle.side.specs.declared.rule.Heard.{Heard as Rule}
-use Rattle.side.specs.declared.rule.Heard.TheVariants.{Irrecoverable, Accepted}
+use Rattle.side.specs.declared.rule.Accepted.{Accepted}
 use Rattle.master.specs.Master.{master_wrong}
 use Rattle.master.specs.declared.Mode.{Mode}
 use Rattle.master.specs.declared.Mode.TheVariants.{Disconnecting, Connecting, Linked}
 use Rattle.master.specs.declared.Master.{Master}
-use Rattle.master.specs.declared.response.ResponseAnswer.{ResponseAnswer}
-use Rattle.master.specs.declared.response.ResponseAnswer.TheVariants.{Heard, Silence, Refused}
-use Rattle.master.specs.declared.response.MasterResponse.{MasterResponse}
 use Rattle.master.specs.declared.response.Brought.{Brought}
 
 -- 16: "response or silence reported while no order waits"
@@ -92,9 +89,9 @@ unfoldable pub hear_connecting : Master → Meaning → Brought
 hear_connecting m f = pick (is_ua f) (links m) (turns m Disconnecting Same)
 
 -- "Irrecoverable, or UA, FRMR, SNRM, DISC heard: disconnecting."
-abbrev pub on_heard : Master → Meaning → Side → Rule → Brought
-on_heard m f t Irrecoverable = turns m Disconnecting Lost
-on_heard m f t (Accepted confirmed handed) = accepts m f t confirmed handed
+abbrev pub on_heard : Master → Meaning → Side → Option Accepted → Brought
+on_heard m f t None = turns m Disconnecting Lost
+on_heard m f t (Some a) = accepts m f t a.confirmed a.handed
 
 -- "Count rule, .. master linked, for I, RR, RNR"
 unfoldable pub hear_linked : Master → Meaning → List ℕ → Brought
@@ -116,14 +113,14 @@ pub data Report : Type 0 where
   silent : Report
 
 -- the number and the values of each case
-abbrev pub reported : ResponseAnswer → Answer Report
-reported (Heard n) = gives (brings n)
-reported Silence = gives silent
-reported (Refused n) = refuses n
+abbrev pub reported : Result (Option News) Refusal → Answer Report
+reported (Ok (Some n)) = gives (brings n)
+reported (Ok None) = gives silent
+reported (Err r) = refuses (number_of r)
 
--- the same for the whole result
-abbrev pub response_given : MasterResponse → Given Report Master
-response_given r = record { answer = reported r.answer; end = r.master }
+-- the same with the end as the call leaves it
+abbrev pub response_given : Result (Option News) Refusal → Master → Given Report Master
+response_given r m = record { answer = reported r; end = m }
 
 -- "An age at or above the limit, or another address, counts as silence": judged after 16, 9, 10, 12
 unfoldable pub response_of : Master → ℕ → Meaning → List ℕ → ℕ → Given Report Master

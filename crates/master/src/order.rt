@@ -1,25 +1,14 @@
 // The master's order: what it sends in each mode, and the wait that the order starts.
 ghost use Rattle.std.specs.Prelude.{◌≡◌, length};
-ghost use Rattle.master.specs.Order.{waiting_refusal, in_linked, may_inform, order_bytes, order_given, order_of, order_refusal, orders, plain, waits};
+ghost use Rattle.frame.specs.Answer.{refusal_in};
+ghost use Rattle.side.specs.Given.{given};
+ghost use Rattle.master.specs.Order.{in_linked, may_inform, order_bytes, order_of, order_refusal, orders, plain, waits};
 
 use crate::{Master, Mode};
-use frame::{Meaning, number};
-use side::answer::Line;
+use frame::{Line, Meaning, Refusal};
 use side::{Side, slot};
 
-#[derive(Clone, Copy)]
-pub enum OrderAnswer {
-    Orders(Line),
-    Refused(u8),
-}
-
-#[derive(Clone, Copy)]
-pub struct MasterOrder {
-    pub answer: OrderAnswer,
-    pub master: Master,
-}
-
-// What an order that is not refused sends, and the master that waits for its response.
+// What an order that is not refused sends, and the master that waits for its response: a value, like `side::rule::Hearing` and for its reason.
 #[derive(Clone, Copy)]
 pub struct Ordered {
     pub line: Line,
@@ -28,51 +17,34 @@ pub struct Ordered {
 
 impl Master {
     // Gives the next order, with its information in the lent buffer: 30, 17, 11.
-    pub fn order(self, tick: u32, out: &mut [u8]) -> MasterOrder
-        ensures answer { order_given result ≡ order_of self tick (length out.old) }
-        ensures bytes { out.new ≡ order_bytes self tick out.old }
+    #[tactic(auto, using(crate::proofs::Keeps::order_fits, side::proofs::Parts::laid_fits), unfolding(crate::specs::Order::order_of))]
+    pub fn order(&mut self, tick: u32, out: &mut [u8]) -> Result<Line, Refusal>
+        ensures answer { given result self.new ≡ order_of self.old tick (length out.old) }
+        ensures bytes { out.new ≡ order_bytes self.old tick out.old }
     {
-        let room = out.len();
-        let refusal = self.order_refusal(room);
-        if refusal != 0 {
-            return MasterOrder {
-                answer: OrderAnswer::Refused(refusal),
-                master: self,
-            };
-        }
+        self.order_refusal(out.len())?;
         let ordered = self.orders(tick);
-        let line = ordered.line;
-        let master = ordered.master;
-        let side = self.side;
-        let held = side.held;
-        let size = line.size;
-        slot::lay(held, size, out);
-        MasterOrder {
-            answer: OrderAnswer::Orders(line),
-            master,
-        }
+        slot::lay(&self.side.held, ordered.line.size, out);
+        *self = ordered.master;
+        Ok(ordered.line)
     }
 
-    fn order_refusal(self, room: usize) -> u8
-        ensures { result ≡ order_refusal self room }
+    #[tactic(auto, unfolding(crate::specs::Order::order_refusal))]
+    fn order_refusal(&self, room: usize) -> Result<(), Refusal>
+        ensures { refusal_in result ≡ order_refusal self.now room }
     {
-        let wrong = self.wrong();
-        if wrong != 0 {
-            return wrong;
-        }
-        let waiting = self.waiting;
-        let refusal = waiting_refusal(waiting);
-        if refusal != 0 {
-            return refusal;
+        self.wrong()?;
+        if self.waiting {
+            return Err(Refusal::OrderWaits);
         }
         slot::room_refusal(room)
     }
 
+    #[tactic(auto, unfolding(crate::specs::Order::orders))]
     fn orders(self, tick: u32) -> Ordered
         ensures { result ≡ orders self tick }
     {
-        let mode = self.mode;
-        match mode {
+        match self.mode {
             Mode::Disconnecting => self.plain(Meaning::Disc, tick),
             Mode::Connecting => self.plain(Meaning::Snrm, tick),
             Mode::Linked => self.in_linked(tick),
@@ -80,71 +52,49 @@ impl Master {
     }
 
     // RNR if the incoming slot is full, else I if a message is held and the peer isn't marked busy, else RR.
+    #[tactic(auto, unfolding(crate::specs::Order::in_linked))]
     fn in_linked(self, tick: u32) -> Ordered
         ensures { result ≡ in_linked self tick }
     {
-        let may = self.may_inform();
-        let side = self.side;
-        let saying = side.say(may);
-        let meaning = saying.meaning;
-        let size = saying.size;
-        let after = saying.side;
-        let address = self.address;
-        let master = self.waits(after, tick);
+        let saying = self.side.say(self.may_inform());
         Ordered {
             line: Line {
-                address,
-                meaning,
-                size,
+                address: self.address,
+                meaning: saying.meaning,
+                size: saying.size,
             },
-            master,
+            master: self.waits(saying.side, tick),
         }
     }
 
-    fn may_inform(self) -> bool
-        ensures { result ≡ may_inform self }
+    #[tactic(auto, unfolding(crate::specs::Order::may_inform))]
+    fn may_inform(&self) -> bool
+        ensures { result ≡ may_inform self.now }
     {
-        let side = self.side;
-        let full = side.full();
-        if full {
-            return false;
-        }
-        let busy = self.busy;
-        !busy
+        !self.side.full() && !self.busy
     }
 
     fn plain(self, meaning: Meaning, tick: u32) -> Ordered
         ensures { result ≡ plain self meaning tick }
     {
-        let side = self.side;
-        let address = self.address;
-        let master = self.waits(side, tick);
         Ordered {
             line: Line {
-                address,
+                address: self.address,
                 meaning,
                 size: 0,
             },
-            master,
+            master: self.waits(self.side, tick),
         }
     }
 
     fn waits(self, side: Side, tick: u32) -> Master
         ensures { result ≡ waits self side tick }
     {
-        let mut master = self;
-        master.side = side;
-        master.waiting = true;
-        master.tick = tick;
-        master
+        Master {
+            side,
+            waiting: true,
+            tick,
+            ..self
+        }
     }
-}
-
-fn waiting_refusal(waiting: bool) -> u8
-    ensures { result ≡ waiting_refusal waiting }
-{
-    if waiting {
-        return number::ORDER_WAITS;
-    }
-    0
 }

@@ -1,27 +1,15 @@
 // The response to an order: what it brings in each mode, and when it counts as silence.
 ghost use Rattle.std.specs.Prelude.{◌≡◌};
-ghost use Rattle.master.specs.Response.{accepts, age_of, counts_as_silence, goes, hear_connecting, hear_disconnecting, hear_linked, hears, is_ua, links, response_given, response_of, response_refusal, turns};
+ghost use Rattle.frame.specs.Answer.{refusal_in};
+ghost use Rattle.master.specs.Response.{accepts, age_of, counts_as_silence, goes, hear_connecting, hear_disconnecting, hear_linked, hears, links, response_given, response_of, response_refusal, turns};
 
 use crate::{Master, Mode};
-use frame::{Meaning, refusal};
+use frame::{Meaning, Refusal, refusal};
 use side::answer::{Change, News};
-use side::rule::Heard;
+use side::rule::Accepted;
 use side::{Side, rule};
 
-#[derive(Clone, Copy)]
-pub enum ResponseAnswer {
-    Heard(News),
-    Silence,
-    Refused(u8),
-}
-
-#[derive(Clone, Copy)]
-pub struct MasterResponse {
-    pub answer: ResponseAnswer,
-    pub master: Master,
-}
-
-// What a response brings that is neither refused nor counted as silence.
+// What a response brings that is neither refused nor counted as silence: a value, like `side::rule::Hearing` and for its reason.
 #[derive(Clone, Copy)]
 pub struct Brought {
     pub news: News,
@@ -29,125 +17,96 @@ pub struct Brought {
 }
 
 impl Master {
-    // Takes the response to the waiting order: 30, 16, 9, 10, 12. A late one, or one from another address, counts as silence.
+    // Takes the response to the waiting order: 30, 16, 9, 10, 12. A late one, or one from another address, counts as silence and brings nothing.
+    #[tactic(auto, unfolding(crate::specs::Response::response_of))]
     pub fn response(
-        self,
+        &mut self,
         address: u8,
         meaning: Meaning,
         information: &[u8],
         tick: u32,
-    ) -> MasterResponse
-        ensures { response_given result ≡ response_of self address meaning information.now tick }
+    ) -> Result<Option<News>, Refusal>
+        ensures { response_given result self.new ≡ response_of self.old address meaning information.now tick }
     {
-        let silenced = self.silenced();
-        let refusal = self.response_refusal(meaning, information);
-        if refusal != 0 {
-            return MasterResponse {
-                answer: ResponseAnswer::Refused(refusal),
-                master: self,
-            };
-        }
-        let silent = self.counts_as_silence(address, tick);
-        if silent {
-            return MasterResponse {
-                answer: ResponseAnswer::Silence,
-                master: silenced,
-            };
+        self.response_refusal(meaning, information)?;
+        if self.counts_as_silence(address, tick) {
+            self.waiting = false;
+            return Ok(None);
         }
         let brought = self.hears(meaning, information);
-        let news = brought.news;
-        let master = brought.master;
-        MasterResponse {
-            answer: ResponseAnswer::Heard(news),
-            master,
-        }
+        *self = brought.master;
+        Ok(Some(brought.news))
     }
 
-    fn response_refusal(self, meaning: Meaning, information: &[u8]) -> u8
-        ensures { result ≡ response_refusal self meaning information.now }
+    #[tactic(auto, unfolding(crate::specs::Response::response_refusal))]
+    fn response_refusal(&self, meaning: Meaning, information: &[u8]) -> Result<(), Refusal>
+        ensures { refusal_in result ≡ response_refusal self.now meaning information.now }
     {
-        let refusal = self.silence_refusal();
-        if refusal != 0 {
-            return refusal;
-        }
+        self.silence_refusal()?;
         refusal::frame_refusal(meaning, information)
     }
 
-    fn counts_as_silence(self, address: u8, tick: u32) -> bool
-        ensures { result ≡ counts_as_silence self address tick }
+    #[tactic(auto, unfolding(crate::specs::Response::counts_as_silence))]
+    fn counts_as_silence(&self, address: u8, tick: u32) -> bool
+        ensures { result ≡ counts_as_silence self.now address tick }
     {
-        let own = self.address;
-        if address != own {
-            return true;
-        }
-        let since = self.tick;
-        let limit = self.limit;
-        let age = age(tick, since);
-        if limit <= age {
-            return true;
-        }
-        false
+        address != self.address || self.limit <= age(tick, self.tick)
     }
 
+    #[tactic(auto, unfolding(crate::specs::Response::hears))]
     fn hears(self, meaning: Meaning, information: &[u8]) -> Brought
         ensures { result ≡ hears self meaning information.now }
     {
-        let mode = self.mode;
-        match mode {
+        match self.mode {
             Mode::Disconnecting => self.hear_disconnecting(meaning),
             Mode::Connecting => self.hear_connecting(meaning),
             Mode::Linked => self.hear_linked(meaning, information),
         }
     }
 
+    #[tactic(auto, unfolding(crate::specs::Response::hear_disconnecting, crate::specs::Response::is_ua))]
     fn hear_disconnecting(self, meaning: Meaning) -> Brought
         ensures { result ≡ hear_disconnecting self meaning }
     {
-        let ua = is_ua(meaning);
-        if ua {
-            return self.turns(Mode::Connecting, Change::Same);
+        match meaning {
+            Meaning::Ua => self.turns(Mode::Connecting, Change::Same),
+            _ => self.turns(Mode::Disconnecting, Change::Same),
         }
-        self.turns(Mode::Disconnecting, Change::Same)
     }
 
+    #[tactic(auto, unfolding(crate::specs::Response::hear_connecting, crate::specs::Response::is_ua))]
     fn hear_connecting(self, meaning: Meaning) -> Brought
         ensures { result ≡ hear_connecting self meaning }
     {
-        let ua = is_ua(meaning);
-        if ua {
-            return self.links();
+        match meaning {
+            Meaning::Ua => self.links(),
+            _ => self.turns(Mode::Disconnecting, Change::Same),
         }
-        self.turns(Mode::Disconnecting, Change::Same)
     }
 
+    #[tactic(auto, unfolding(crate::specs::Response::hear_linked))]
     fn hear_linked(self, meaning: Meaning, information: &[u8]) -> Brought
         ensures { result ≡ hear_linked self meaning information.now }
     {
-        let side = self.side;
-        let hearing = side.hear(meaning, information);
-        let heard = hearing.heard;
-        match heard {
-            Heard::Irrecoverable => self.turns(Mode::Disconnecting, Change::Lost),
-            Heard::Accepted(confirmed, handed) => {
-                let after = hearing.side;
-                self.accepts(meaning, after, confirmed, handed)
-            }
+        let hearing = self.side.hear(meaning, information);
+        match hearing.heard {
+            None => self.turns(Mode::Disconnecting, Change::Lost),
+            Some(accepted) => self.accepts(meaning, hearing.side, accepted),
         }
     }
 
     // RNR heard marks the peer busy; RR or I clears the mark.
-    fn accepts(self, meaning: Meaning, side: Side, confirmed: usize, handed: usize) -> Brought
-        ensures { result ≡ accepts self meaning side confirmed handed }
+    #[tactic(auto, unfolding(crate::specs::Response::accepts))]
+    fn accepts(self, meaning: Meaning, side: Side, accepted: Accepted) -> Brought
+        ensures { result ≡ accepts self meaning side accepted.confirmed accepted.handed }
     {
-        let rnr = rule::is_rnr(meaning);
-        let master = self.goes(Mode::Linked, rnr, side);
         Brought {
             news: News {
-                confirmed,
-                handed,
+                confirmed: accepted.confirmed,
+                handed: accepted.handed,
                 link: Change::Same,
             },
-            master,
+            master: self.goes(Mode::Linked, rule::is_rnr(meaning), side),
         }
     }
 
@@ -155,16 +114,13 @@ impl Master {
     fn links(self) -> Brought
         ensures { result ≡ links self }
     {
-        let side = self.side;
-        let after = side.synchronised();
-        let master = self.goes(Mode::Linked, false, after);
         Brought {
             news: News {
                 confirmed: 0,
                 handed: 0,
                 link: Change::Gained,
             },
-            master,
+            master: self.goes(Mode::Linked, false, self.side.synchronised()),
         }
     }
 
@@ -172,33 +128,25 @@ impl Master {
     fn turns(self, mode: Mode, link: Change) -> Brought
         ensures { result ≡ turns self mode link }
     {
-        let side = self.side;
-        let busy = self.busy;
-        let master = self.goes(mode, busy, side);
         Brought {
             news: News {
                 confirmed: 0,
                 handed: 0,
                 link,
             },
-            master,
+            master: self.goes(mode, self.busy, self.side),
         }
     }
 
     fn goes(self, mode: Mode, busy: bool, side: Side) -> Master
         ensures { result ≡ goes self mode busy side }
     {
-        let tick = self.tick;
-        let limit = self.limit;
-        let address = self.address;
         Master {
             side,
             mode,
             busy,
             waiting: false,
-            tick,
-            limit,
-            address,
+            ..self
         }
     }
 }
@@ -207,19 +155,5 @@ impl Master {
 pub fn age(tick: u32, since: u32) -> u32
     ensures { result ≡ age_of tick since }
 {
-    std::num::wrapping_sub_u32(tick, since)
-}
-
-fn is_ua(meaning: Meaning) -> bool
-    ensures { result ≡ is_ua meaning }
-{
-    match meaning {
-        Meaning::I(_, _) => false,
-        Meaning::Rr(_) => false,
-        Meaning::Rnr(_) => false,
-        Meaning::Snrm => false,
-        Meaning::Disc => false,
-        Meaning::Ua => true,
-        Meaning::Frmr => false,
-    }
+    tick.wrapping_sub(since)
 }

@@ -1,56 +1,31 @@
 // Silence in the place of a response: the wait ends, and nothing else changes.
 ghost use Rattle.std.specs.Prelude.{◌≡◌};
-ghost use Rattle.master.specs.Master.{done_given};
-ghost use Rattle.master.specs.Response.{idle_refusal, silenced, silence_of, silence_refusal};
+ghost use Rattle.frame.specs.Answer.{refusal_in};
+ghost use Rattle.side.specs.Given.{given};
+ghost use Rattle.master.specs.Response.{silence_of, silence_refusal};
 
-use crate::{Master, MasterDone};
-use frame::number;
-use side::answer::Outcome;
+use crate::Master;
+use frame::Refusal;
 
 impl Master {
     // No response came: 30, 16.
-    pub fn silence(self) -> MasterDone
-        ensures { done_given result ≡ silence_of self }
+    #[tactic(auto, unfolding(crate::specs::Response::silence_of))]
+    pub fn silence(&mut self) -> Result<(), Refusal>
+        ensures { given result self.new ≡ silence_of self.old }
     {
-        let refusal = self.silence_refusal();
-        if refusal != 0 {
-            return MasterDone {
-                answer: Outcome::Refused(refusal),
-                master: self,
-            };
-        }
-        let master = self.silenced();
-        MasterDone {
-            answer: Outcome::Done,
-            master,
-        }
+        self.silence_refusal()?;
+        self.waiting = false;
+        Ok(())
     }
 
-    pub(crate) fn silence_refusal(self) -> u8
-        ensures { result ≡ silence_refusal self }
+    #[tactic(auto, unfolding(crate::specs::Response::silence_refusal))]
+    pub(crate) fn silence_refusal(&self) -> Result<(), Refusal>
+        ensures { refusal_in result ≡ silence_refusal self.now }
     {
-        let wrong = self.wrong();
-        if wrong != 0 {
-            return wrong;
+        self.wrong()?;
+        if !self.waiting {
+            return Err(Refusal::NoOrderWaits);
         }
-        let waiting = self.waiting;
-        idle_refusal(waiting)
+        Ok(())
     }
-
-    pub(crate) fn silenced(self) -> Master
-        ensures { result ≡ silenced self }
-    {
-        let mut master = self;
-        master.waiting = false;
-        master
-    }
-}
-
-fn idle_refusal(waiting: bool) -> u8
-    ensures { result ≡ idle_refusal waiting }
-{
-    if waiting {
-        return 0;
-    }
-    number::NO_ORDER_WAITS
 }

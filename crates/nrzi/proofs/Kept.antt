@@ -11,6 +11,7 @@ use lib.Dec.{ltb}
 use lib.ListN.{length, take, drop, length-append, length-drop}
 use lib.Seq.{take_at, drop_at, length-take-le}
 use borrow.Author.Tests.{eq-eqb}
+use Rattle.frame.proofs.LosesNothing.{answer_one}
 use Rattle.frame.proofs.Laws.{pick_among, then_among, unless_lists}
 use Rattle.bits.specs.Bits.{bits_of, bytes_of}
 use Rattle.bits.specs.Packed.{bytes_for, over}
@@ -18,7 +19,6 @@ use Rattle.bits.proofs.Counting.{count_numbers}
 use Rattle.bits.proofs.BitLaws.{length_bits_of, bits_back}
 use Rattle.nrzi.specs.Nrzi.{coding, reached, nrzi_refusal, code_of, code_bytes}
 use Rattle.nrzi.specs.Promises.{ThereAndBack, OutputBits, Numbers, LosesNothing}
-use Rattle.nrzi.specs.declared.Coded.TheVariants.{Level, Refused}
 use Rattle.nrzi.proofs.Levels.{bits_again, levels_again, length-coding}
 use Rattle.nrzi.proofs.Laid.{taken}
 
@@ -49,7 +49,4 @@ numbers back l input bits room =
     (pick_among (ltb room (bytes_for bits)) (there (here refl)) (here refl)))
 
 pub loses_nothing : LosesNothing
-loses_nothing (Level l) (Level k) e = let same : l ≡ k = cc in ap Level same
-loses_nothing (Level l) (Refused n) e = cc
-loses_nothing (Refused n) (Level k) e = cc
-loses_nothing (Refused n) (Refused k) e = let same : n ≡ k = cc in ap Refused same
+loses_nothing a b e = answer_one a b e

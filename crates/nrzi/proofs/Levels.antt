@@ -7,7 +7,8 @@ use mathlib.Core.List.{List, [], ◌∷◌, ◌++◌, append-nil, append_assoc}
 use native.Mathlib.Nat.{div-one, zero-add, add-zero, suc-add, one-mul, mod-lt, div-add-mod', mul-le-mul_right}
 use native.Mathlib.Numerals.{add-one, add-one-le, one-add}
 use native.Mathlib.Omega.{arith}
-use lib.Bits.{bit_xor}
+use lib.Bits.{bit_xor, bit_or}
+use mir.Val.{bool_byte}
 use lib.ListN.{length, take, drop, get_or, set, length-drop}
 use lib.Pow.{shr-shr, shr_lt, shl_exact, pow-add, pow_pos}
 use lib.Seq.{take-suc, take_all, take-append-le, drop-append-le, drop-cons, set_at, length-take-le}
@@ -21,15 +22,14 @@ abbrev spread : ℕ → ℕ → ℕ
 spread k z = bit_xor z (z * 2 ^ k % 256)
 
 abbrev parities : ℕ → ℕ
-parities x = spread 4 (spread 2 (spread 1 (bit_xor x 255)))
+parities x = spread 4 (spread 2 (spread 1 (255 - x)))
 
 abbrev pub levels_byte : Bool → ℕ → ℕ
-levels_byte true x = bit_xor (parities x) 255
+levels_byte true x = 255 - parities x
 levels_byte false x = parities x
 
 abbrev pub bits_byte : Bool → ℕ → ℕ
-bits_byte true x = bit_xor (spread 1 x) 254
-bits_byte false x = bit_xor (spread 1 x) 255
+bits_byte l x = 255 - bit_xor x (bit_or (x * 2 % 256) (bool_byte l))
 
 pub levels_byte_lem : (l : Bool) (x : ℕ) → x < 256 → levels_byte l x ≡ val (coding false l (low 8 x))
 unfolding val coding low
@@ -143,6 +143,10 @@ pub end_of_bits : (l : Bool) (n x : ℕ) → 1 ≤ n → n ≤ 8 → odd (val (c
 end_of_bits l n x h g =
     end_of_levels l n (val (coding false l (low 8 x))) h ∙ ap (λ (r : List Bool). reached true l r) (part-coded false l x n g) ∙ sym (same_end l (low n x))
 
+-- the level after n bits, in the byte that comes out
+pub levels_end : (l : Bool) (x : ℕ) → x < 256 → (n : ℕ) → 1 ≤ n → n ≤ 8 → odd (levels_byte l x / 2 ^ (n - 1)) ≡ reached false l (low n x)
+levels_end l x f n h g = ap (λ (y : ℕ). odd (y / 2 ^ (n - 1))) (levels_byte_lem l x f) ∙ end_of_bits l n x h g
+
 -- the n low bits of one byte and the others of another
 module _ (fresh old n : ℕ) (h : n < 8) where
   pub power : 1 * 2 ^ n % 256 ≡ 2 ^ n
@@ -150,6 +154,13 @@ module _ (fresh old n : ℕ) (h : n < 8) where
 
   fresh_small : fresh % 2 ^ n < 2 ^ n
   fresh_small = mod-lt fresh (pow_pos n)
+
+  -- the others alone: nothing is shifted out
+  pub kept : old < 256 → old / 2 ^ n * 2 ^ n % 256 ≡ old / 2 ^ n * 2 ^ n
+  kept o =
+      let e : 8 - n + n ≡ 8 = omega arith in
+      let top : old / 2 ^ n < 2 ^ (8 - n) = shr_lt (8 - n) n (rw e o) in
+      shl_exact {a = old / 2 ^ n} (8 - n) n 8 top (omega arith)
 
   pub blend_fits : old < 256 → old / 2 ^ n * 2 ^ n + fresh % 2 ^ n < 256
   blend_fits o =

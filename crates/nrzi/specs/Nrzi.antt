@@ -1,12 +1,10 @@
 -- NRZI (01, "Bits between flags"): "a zero changes the level, a one keeps it, from a given starting level. Both ways, as many bits out as in; the other bits of the lent output stay."
 use Rattle.std.specs.Prelude.{ℕ, Bool, true, false, not, List, [], ◌∷◌, eqb, ltb, length, take}
 use Rattle.frame.specs.Pick.{pick, ◌then◌}
-use Rattle.frame.specs.Answer.{Answer, gives, refuses, unless}
+use Rattle.frame.specs.Answer.{Answer, unless}
 use Rattle.bits.specs.Bits.{bits_of, bytes_of}
 use Rattle.bits.specs.Packed.{bytes_for, over}
 use Rattle.bits.specs.Count.{bit_count_refusal}
-use Rattle.nrzi.specs.declared.Coded.{Coded}
-use Rattle.nrzi.specs.declared.Coded.TheVariants.{Level, Refused}
 
 -- "a zero changes the level, a one keeps it"
 abbrev pub level : Bool → Bool → Bool
@@ -52,7 +50,3 @@ code_bytes back l input bits out =
     pick (eqb (nrzi_refusal bits (length input) (length out)) 0)
     (bytes_of (length out) (over (coding back l (take bits (bits_of input))) (bits_of out)))
     out
-
-abbrev pub coded : Coded → Answer Bool
-coded (Level l) = gives l
-coded (Refused n) = refuses n

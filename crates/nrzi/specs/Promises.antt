@@ -1,9 +1,9 @@
 -- What is promised of NRZI beside each function's contract. The proofs stand in proofs/Kept.antt.
-use Rattle.std.specs.Prelude.{ℕ, ◌≡◌, Bool, true, false, List, [], ◌∷◌, length, take, drop}
-use Rattle.frame.specs.Answer.{Lists}
+use Rattle.std.specs.Prelude.{ℕ, ◌≡◌, Bool, true, false, Result, List, [], ◌∷◌, length, take, drop}
+use Rattle.frame.specs.Answer.{answer, Lists}
+use Rattle.frame.specs.declared.number.Refusal.{Refusal}
 use Rattle.bits.specs.Bits.{bits_of}
-use Rattle.nrzi.specs.Nrzi.{coding, nrzi_refusal, code_of, code_bytes, coded}
-use Rattle.nrzi.specs.declared.Coded.{Coded}
+use Rattle.nrzi.specs.Nrzi.{coding, nrzi_refusal, code_of, code_bytes}
 
 -- decode after encode and encode after decode give back what went in
 abbrev pub ThereAndBack : Type 0
@@ -22,4 +22,4 @@ Numbers = (back l : Bool) (input : List ℕ) (bits room : ℕ) → Lists (2 ∷ 
 
 -- the definition that lists an answer's number and values loses nothing
 abbrev pub LosesNothing : Type 0
-LosesNothing = (a b : Coded) → coded a ≡ coded b → a ≡ b
+LosesNothing = (a b : Result Bool Refusal) → answer a ≡ answer b → a ≡ b

@@ -24,7 +24,7 @@ use Rattle.line.proofs.Round.{calls_give, read_is_written}
 use Rattle.side.specs.Given.{Given, giving, refused, refusing, size_given}
 use Rattle.side.specs.Right.{address_wrong, side_wrong}
 use Rattle.side.specs.Slot.{laid, room_refusal as room_number}
-use Rattle.side.specs.declared.answer.Line.{Line}
+use Rattle.frame.specs.declared.Line.{Line}
 use Rattle.side.specs.declared.answer.News.{News}
 use Rattle.side.proofs.Calls.{refusing_lists}
 use Rattle.side.proofs.Numbers.{room_numbers}

@@ -8,16 +8,17 @@ use Rattle.paper.proofs.Outcome.{both, meets}
 pub frame_outcomes : FrameOutcomes
 frame_outcomes =
     record {
-      decode = λ κs a o u p q. both (loses_nothing.decode o.answer u.answer (meets p q)) refl;
-      encode = λ κs a o u p q. both (loses_nothing.encode o.answer u.answer (meets p q)) refl;
-      counts_refusal = λ κs a o u p q. both (meets p q) refl;
-      check = λ κs a o u p q. both (loses_nothing.check o.answer u.answer (meets p q)) refl;
-      check_in = λ κs a o u p q. both (loses_nothing.check o.answer u.answer (meets p q)) refl;
+      number = λ κs a o u p q. both (meets p q) refl;
+      decode = λ κs a o u p q. both (loses_nothing.answer o.answer u.answer (meets p q)) refl;
+      encode = λ κs a o u p q. both (loses_nothing.answer o.answer u.answer (meets p q)) refl;
+      counts_refusal = λ κs a o u p q. both (loses_nothing.refusal o.answer u.answer (meets p q)) refl;
+      check = λ κs a o u p q. both (loses_nothing.answer o.answer u.answer (meets p q)) refl;
+      check_in = λ κs a o u p q. both (loses_nothing.answer o.answer u.answer (meets p q)) refl;
       information = λ κs a o u p q. (meets p q, refl);
-      message_refusal = λ κs a o u p q. both (meets p q) refl;
+      message_refusal = λ κs a o u p q. both (loses_nothing.refusal o.answer u.answer (meets p q)) refl;
       source_task = λ κs a o u p q. both (meets p q) refl;
       destination_task = λ κs a o u p q. both (meets p q) refl;
-      address_refusal = λ κs a o u p q. both (meets p q) refl;
-      information_refusal = λ κs a o u p q. both (meets p q) refl;
-      frame_refusal = λ κs a o u p q. both (meets p q) refl;
+      address_refusal = λ κs a o u p q. both (loses_nothing.refusal o.answer u.answer (meets p q)) refl;
+      information_refusal = λ κs a o u p q. both (loses_nothing.refusal o.answer u.answer (meets p q)) refl;
+      frame_refusal = λ κs a o u p q. both (loses_nothing.refusal o.answer u.answer (meets p q)) refl;
     }

@@ -14,12 +14,13 @@ use Rattle.frame.specs.Carried.{Carried}
 use Rattle.frame.specs.declared.Meaning.{Meaning}
 use Rattle.frame.proofs.Laws.{pick_both}
 use Rattle.frame.proofs.Bytes.{bytes_append, bytes_drop}
-use Rattle.writer.specs.Write.{Report, write_of, write_bytes}
+use Rattle.writer.specs.Write.{write_of, write_bytes}
+use Rattle.writer.specs.declared.Report.{Report}
 use Rattle.reader.specs.Read.{fitting, read_of}
 use Rattle.side.specs.Given.{Given}
 use Rattle.side.specs.Side.{Arrays}
 use Rattle.side.specs.declared.Side.{Side}
-use Rattle.side.specs.declared.answer.Line.{Line}
+use Rattle.frame.specs.declared.Line.{Line}
 use Rattle.side.specs.declared.answer.News.{News}
 use Rattle.side.proofs.Slots.{Lays, lays_size}
 use Rattle.slave.specs.Step.{step_of, step_bytes}

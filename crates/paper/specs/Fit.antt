@@ -4,11 +4,12 @@ use Rattle.frame.specs.Bytes.{Bytes}
 use Rattle.frame.specs.Answer.{gives, Lists}
 use Rattle.frame.specs.Carried.{Carried}
 use Rattle.frame.specs.declared.Meaning.{Meaning}
-use Rattle.writer.specs.Write.{Report, write_of, write_bytes}
+use Rattle.writer.specs.Write.{write_of, write_bytes}
+use Rattle.writer.specs.declared.Report.{Report}
 use Rattle.reader.specs.Read.{fitting, read_of}
 use Rattle.side.specs.Side.{Slots}
 use Rattle.side.specs.declared.Side.{Side}
-use Rattle.side.specs.declared.answer.Line.{Line}
+use Rattle.frame.specs.declared.Line.{Line}
 use Rattle.side.specs.declared.answer.News.{News}
 use Rattle.slave.specs.Step.{step_of, step_bytes}
 use Rattle.slave.specs.declared.Slave.{Slave}

@@ -1,10 +1,12 @@
 -- Any two outcomes that a contract of `frame` allows are equal. The proofs stand in proofs/FrameOutcomes.antt.
+use Rattle.frame.proofs.number.Refusal as Refusal
 use Rattle.frame.proofs.control as control
 use Rattle.frame.proofs.message as message
 use Rattle.frame.proofs.refusal as refusal
 use Rattle.paper.specs.Outcome.{OneOutcome, OneSeen}
 
 pub record FrameOutcomes : Type 0 where
+  pub number : OneOutcome Refusal.number.Kinds.ps Refusal.number.Kinds.r Refusal.number.Reads.Learnt
   pub decode : OneOutcome control.decode.Kinds.ps control.decode.Kinds.r control.decode.Reads.Learnt
   pub encode : OneOutcome control.encode.Kinds.ps control.encode.Kinds.r control.encode.Reads.Learnt
   pub counts_refusal : OneOutcome control.counts_refusal.Kinds.ps control.counts_refusal.Kinds.r control.counts_refusal.Reads.Learnt

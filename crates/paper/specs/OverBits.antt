@@ -4,7 +4,8 @@ use Rattle.std.specs.Prelude.{ℕ, ◌≡◌, List, [], ◌∷◌, length}
 use Rattle.frame.specs.Bytes.{Bytes}
 use Rattle.frame.specs.Answer.{Answer, gives, refuses}
 use Rattle.frame.specs.Carried.{Carried}
-use Rattle.writer.specs.Write.{Report, write_of, write_bytes}
+use Rattle.writer.specs.Write.{write_of, write_bytes}
+use Rattle.writer.specs.declared.Report.{Report}
 use Rattle.reader.specs.Read.{read_of}
 use Rattle.slave.specs.declared.Slave.{Slave}
 use Rattle.master.specs.declared.Master.{Master}

@@ -9,6 +9,7 @@ use Rattle.frame.specs.declared.Meaning.TheVariants.{I, Rr, Snrm}
 use Rattle.bits.specs.Flag.{flag}
 use Rattle.bits.specs.Count.{bit_count_refusal}
 use Rattle.writer.specs.Write.{content_bytes, line, laid, write_of}
+use Rattle.frame.specs.declared.Line.{Line}
 use Rattle.reader.specs.Read.{read_of, told}
 use Rattle.nrzi.specs.Nrzi.{code_of}
 use Rattle.side.specs.Right.{side_wrong, address_wrong}
@@ -29,7 +30,7 @@ use Rattle.layout.specs.MasterLayout as master-layout
 use Rattle.paper.specs.Points.{digits, ns, nr}
 
 -- what is read of bits that stand alone in a packed buffer, for a lent output of that room
-abbrev pub reads : List Bool → ℕ → Answer (ℕ × Meaning × ℕ)
+abbrev pub reads : List Bool → ℕ → Answer Line
 reads bits room = told (read_of (laid bits []) (length bits) room)
 
 -- an I frame with counts 0; a message of 5 bytes, and 5 bytes that are no message

@@ -11,7 +11,7 @@ use Rattle.reader.specs.Flags.{nothing, content, heard}
 use Rattle.reader.specs.Read.{judged}
 use Rattle.side.specs.Side.{fresh}
 use Rattle.side.specs.declared.answer.Change.TheVariants.{Same}
-use Rattle.side.specs.declared.answer.Line.{Line}
+use Rattle.frame.specs.declared.Line.{Line}
 use Rattle.side.specs.declared.answer.News.{News}
 use Rattle.slave.specs.Slave as slaves
 use Rattle.slave.specs.Step.{step_of}

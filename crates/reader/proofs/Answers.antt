@@ -1,7 +1,7 @@
 -- The reader's answers: their numbers, and that the definition of their values loses nothing.
 -- Assumes nothing.
 use Prim.Native.Nat.{ℕ, ◌+◌, ◌-◌, ◌*◌, ◌/◌, ◌%◌}
-use mathlib.Core.Path.{◌≡◌, refl, ap}
+use mathlib.Core.Path.{◌≡◌, refl}
 use mathlib.Core.List.Memᴰ
 use mathlib.Core.List.Memᴰ.{head as here}
 use mathlib.Core.List.Memᴰ.{tail as there}
@@ -27,7 +27,7 @@ use Rattle.bits.proofs.Counting.{count_numbers}
 use Rattle.reader.specs.Flags.{Heard, nothing, content, heard}
 use Rattle.reader.specs.Read.{◌before◌, meant, fitting, told, removal_refusal, check_refusal, bytes_in, frame_answer, content_answer, judged, read_of}
 use Rattle.reader.specs.Promises.{ReadNumbers, ReadLosesNothing}
-use Rattle.reader.specs.declared.Reading.TheVariants.{Frame, Refused}
+use Rattle.frame.proofs.LosesNothing.{answer_one}
 
 -- ---- numbers
 
@@ -50,9 +50,6 @@ each_found n (k ∷ ks) h (there m) = each_found n ks h.1 m
 
 n0 : Found 0
 n0 = here refl
-
-n2 : Found 2
-n2 = there (here refl)
 
 n3 : Found 3
 n3 = there (there (there (here refl)))
@@ -140,9 +137,4 @@ read_numbers buffer bits room =
 -- ---- values
 
 pub read_loses_nothing : ReadLosesNothing
-read_loses_nothing (Frame a m n) (Frame b k l) e =
-    let same : ◌≡◌ {A = ℕ × Meaning × ℕ} (a, m, n) (b, k, l) = cc in
-    ap (λ (v : ℕ × Meaning × ℕ). Frame v.0 v.1 v.2) same
-read_loses_nothing (Frame a m n) (Refused k) e = cc
-read_loses_nothing (Refused n) (Frame b k l) e = cc
-read_loses_nothing (Refused n) (Refused k) e = let same : n ≡ k = cc in ap Refused same
+read_loses_nothing r s e = answer_one r s e

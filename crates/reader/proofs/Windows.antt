@@ -1,6 +1,6 @@
 -- Bits seen through a window of eight: what the last eight bits, as a byte, tell of flags and of seven ones.
 -- Assumes nothing.
-use Prim.Native.Nat.{ℕ, zero, suc, ◌+◌, ◌-◌, ◌*◌, ◌/◌, ◌^◌, ◌<◌, ◌≤◌}
+use Prim.Native.Nat.{ℕ, suc, ◌+◌, ◌-◌, ◌*◌, ◌/◌, ◌^◌, ◌<◌, ◌≤◌}
 use mathlib.Core.Path.{◌≡◌, ◌∙◌, refl, sym, ap}
 use mathlib.Core.Bool.{Bool, true, false, true≢false}
 use mathlib.Core.List.{List, [], ◌∷◌, ◌++◌}
@@ -9,6 +9,7 @@ use native.Mathlib.Decide.{dec_lt}
 use native.Mathlib.Omega.{arith}
 use lib.ListN.{length, get_or, take, drop, replicate, length-append, length-take, length-drop, get_or-replicate, get_or-append}
 use lib.Seq.{drop-drop, drop-cons, take-suc, take-take, get_or-take, get_or-drop, drop-append-add, drop-append-le, take-append-le, get_or-append-add}
+use Rattle.std.proofs.lemmas.List.{drop-take}
 use Rattle.bits.specs.Bits.{num, odd, low, val}
 use Rattle.bits.specs.Flag.{flag}
 use Rattle.bits.proofs.BitLaws.{low_join, val-low, num_small, flag_bits}
@@ -20,10 +21,9 @@ use Rattle.reader.proofs.Placing.{same_tail}
 
 -- a part of the first bits is a part of the bits
 pub take-drop-take : (n a m : ℕ) (l : List Bool) → a + n ≤ m → take n (drop a (take m l)) ≡ take n (drop a l)
-take-drop-take n zero m l h = take-take n m l (omega arith)
-take-drop-take n (suc a) zero l h = absurd (omega arith)
-take-drop-take n (suc a) (suc m) [] h = refl
-take-drop-take n (suc a) (suc m) (b ∷ bs) h = take-drop-take n a m bs (omega arith)
+take-drop-take n a m l h =
+    let whole : a + (m - a) ≡ m = omega arith in
+    ap (λ (k : ℕ). take n (drop a (take k l))) (sym whole) ∙ ap (λ (x : List Bool). take n x) (drop-take a (m - a) l) ∙ take-take n (m - a) (drop a l) (omega arith)
 
 pub part_within : (s e n : ℕ) (l : List Bool) → s ≤ e → e ≤ n → part s e (take n l) ≡ part s e l
 part_within s e n l h g = take-drop-take (e - s) s n l (omega arith)

@@ -12,8 +12,7 @@ use Rattle.bits.specs.Insert.{remove, ending}
 use Rattle.bits.specs.Check.{check_word}
 use Rattle.bits.specs.Count.{bit_count_refusal}
 use Rattle.reader.specs.Flags.{Heard, nothing, content, heard}
-use Rattle.reader.specs.declared.Reading.{Reading}
-use Rattle.reader.specs.declared.Reading.TheVariants.{Frame, Refused}
+use Rattle.frame.specs.declared.Line.{Line}
 
 infixr 20 ◌before◌
 -- "Order of tests": a number that was found comes before the answer of the later tests (0: none was)
@@ -68,16 +67,11 @@ unfoldable pub read_of : List ℕ → ℕ → ℕ → Answer Carried
 read_of buffer bits room = bit_count_refusal (length buffer) bits before fitting room (judged (heard (take bits (bits_of buffer))))
 
 -- what the caller is told: address, meaning and the information's size
-abbrev pub told : Answer Carried → Answer (ℕ × Meaning × ℕ)
-told (gives f) = gives (f.address, f.meaning, length f.information)
+abbrev pub told : Answer Carried → Answer Line
+told (gives f) = gives (record { address = f.address; meaning = f.meaning; size = length f.information })
 told (refuses n) = refuses n
 
 -- "On success the bytes past the information stay, all of them where there is none"; a refusal writes nothing
 abbrev pub out_after : Answer Carried → List ℕ → List ℕ
 out_after (gives f) out = f.information ++ drop (length f.information) out
 out_after (refuses n) out = out
-
--- the paper's number and the values of each answer
-abbrev pub reading_gives : Reading → Answer (ℕ × Meaning × ℕ)
-reading_gives (Frame address meaning size) = gives (address, meaning, size)
-reading_gives (Refused n) = refuses n

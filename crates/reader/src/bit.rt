@@ -2,14 +2,12 @@
 ghost use Rattle.std.specs.Prelude.{◌≡◌, ◌+◌, ◌*◌, ◌/◌, ◌<◌, get_or, length, true};
 ghost use Rattle.bits.specs.Bits.{bits_of, num};
 
-// The bit at a place of a packed buffer.
+// The bit at a place of a packed buffer: a number and no bool, since it goes into the window as one.
 pub(crate) fn bit(buffer: &[u8], place: usize) -> u8
     requires { place < 8 * length buffer.now }
     ensures { result ≡ num (get_or (bits_of buffer.now) place true) }
 {
-    let byte = buffer[place / 8];
-    let rest = byte >> (place % 8);
-    rest % 2
+    (buffer[place / 8] >> (place % 8)) % 2
 }
 
 // A bit comes in at the top of the byte, and the oldest goes out.

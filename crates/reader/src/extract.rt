@@ -5,6 +5,7 @@ ghost use Rattle.reader.specs.Extract.{Removed, run_after};
 ghost use Rattle.reader.specs.Flags.{part};
 
 use crate::bit;
+use std::ops::Range;
 
 // How many bits were kept, and the run of ones at the end.
 #[derive(Clone, Copy)]
@@ -13,28 +14,27 @@ pub(crate) struct Kept {
     pub run: u8,
 }
 
-// Keeps the bits from one place up to another, but for each zero that follows five ones.
-pub(crate) fn extract(buffer: &[u8], start: usize, end: usize, bytes: &mut [u8]) -> Kept
-    requires { (start ≤ end) × (end ≤ 8 * length buffer.now) × (end ≤ 8 * length bytes.old) }
-    ensures { Removed (part start end (bits_of buffer.now)) bytes.new result.bits result.run }
+// Keeps the bits of a content, but for each zero that follows five ones.
+pub(crate) fn extract(buffer: &[u8], content: Range<usize>, bytes: &mut [u8]) -> Kept
+    requires { (content.start ≤ content.end) × (content.end ≤ 8 * length buffer.now) × (content.end ≤ 8 * length bytes.old) }
+    ensures { Removed (part content.start content.end (bits_of buffer.now)) bytes.new result.bits result.run }
 {
-    let mut kept: usize = 0;
+    let mut bits: usize = 0;
     let mut window: u8 = 0xFF;
     let mut run: u8 = 0;
-    let mut place = start;
-    while place < end {
-        let b = bit::bit(buffer, place);
-        place += 1;
+    // Not `for place in content`: it was tried, and the place has no name in the invariant then.
+    for place in content.start..content.end {
+        let bit = bit::bit(buffer, place);
         if run == 5 {
             run = 0;
             continue;
         }
-        window = bit::shift_in(window, b);
-        bytes[kept / 8] = window;
-        kept += 1;
-        run = lengthened(run, b);
+        window = bit::shift_in(window, bit);
+        bytes[bits / 8] = window;
+        bits += 1;
+        run = lengthened(run, bit);
     }
-    Kept { bits: kept, run }
+    Kept { bits, run }
 }
 
 // The run of ones after a bit that is kept.

@@ -27,8 +27,8 @@ use Rattle.side.specs.declared.rule.Ack.{Ack}
 use Rattle.side.specs.declared.rule.Ack.TheVariants.{ConfirmsNothing, Confirms, Astray}
 use Rattle.side.specs.declared.rule.Seen.{Seen}
 use Rattle.side.specs.declared.rule.Seen.TheVariants.{New, Duplicate, Strange}
-use Rattle.side.specs.declared.rule.Heard.{Heard}
-use Rattle.side.specs.declared.rule.Heard.TheVariants.{Irrecoverable, Accepted}
+use Rattle.std.specs.Prelude.{Option, None, Some}
+use Rattle.side.specs.declared.rule.Accepted.{Accepted}
 use Rattle.side.specs.declared.rule.Hearing.{Hearing}
 use Rattle.side.specs.declared.say.Saying.{Saying}
 use Rattle.side.proofs.Parts.{parts, whole, slot_small}
@@ -100,9 +100,9 @@ hand_over_right m confirmed s e r =
     (record { ns = p.ns; nr = next_right s.nr.0; held = p.held; incoming = slot_filled m (drop (length m) s.incoming) e; sent = p.sent }))
     r
 
-heard_right : (m : List ℕ) (s : Side) (h : Heard) → message_refusal m ≡ 0 → Right s → Right (on_heard m s h).side
-heard_right m s Irrecoverable e r = r
-heard_right m s (Accepted confirmed handed) e r = hand_over_right m confirmed s e r
+heard_right : (m : List ℕ) (s : Side) (h : Option Accepted) → message_refusal m ≡ 0 → Right s → Right (on_heard m s h).side
+heard_right m s None e r = r
+heard_right m s (Some a) e r = hand_over_right m a.confirmed s e r
 
 i_right : (s : Side) (k : Ack) (m : List ℕ) (n : Seen) → message_refusal m ≡ 0 → Right s → Right (on_i s k m n).side
 i_right s k m New e r = heard_right m (on_nr s k).side (on_nr s k).heard e (nr_right s k r)

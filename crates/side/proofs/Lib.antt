@@ -1,6 +1,5 @@
 -- Laws that the rooms above may cite, and the theorems of this room.
 pub mod Parts
-pub mod Steps
 pub mod Calls
 pub mod Keeps
 pub mod Slots

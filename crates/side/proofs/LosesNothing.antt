@@ -1,27 +1,12 @@
--- The definitions that list an answer's number and values, and those of whole results, lose nothing.
+-- The definitions that say an answer and the end after it, and what a making gives, lose nothing.
 -- Assumes nothing.
-use mathlib.Core.Path.{◌≡◌, refl, ap}
-use Rattle.side.specs.Given.{Given, done, taken}
-use Rattle.side.specs.Slot.{put_given, take_given}
+use Rattle.std.specs.Prelude.{Result, Ok, Err}
+use mathlib.Core.Path.{◌≡◌, ap, sym}
+use Rattle.frame.proofs.Laws.{gives_not, refuses_one}
+use Rattle.frame.proofs.LosesNothing.{number_one, answer_one}
+use Rattle.frame.specs.declared.number.Refusal.{Refusal}
+use Rattle.side.specs.Given.{Given, given, making}
 use Rattle.side.specs.Promises.{LosesNothing}
-use Rattle.side.specs.declared.answer.Outcome.{Outcome}
-use Rattle.side.specs.declared.answer.Outcome.TheVariants.{Done, Refused}
-use Rattle.side.specs.declared.answer.TakeAnswer.{TakeAnswer}
-use Rattle.side.specs.declared.answer.TakeAnswer.TheVariants.{Taken, Refused as NotTaken}
-use Rattle.side.specs.declared.slot.SidePut.{SidePut}
-use Rattle.side.specs.declared.slot.SideTake.{SideTake}
-
-pub done_one : (a b : Outcome) → done a ≡ done b → a ≡ b
-done_one Done Done e = refl
-done_one Done (Refused k) e = cc
-done_one (Refused n) Done e = cc
-done_one (Refused n) (Refused k) e = let same : n ≡ k = cc in ap Refused same
-
-pub taken_one : (a b : TakeAnswer) → taken a ≡ taken b → a ≡ b
-taken_one (Taken n) (Taken k) e = let same : n ≡ k = cc in ap Taken same
-taken_one (Taken n) (NotTaken k) e = cc
-taken_one (NotTaken n) (Taken k) e = cc
-taken_one (NotTaken n) (NotTaken k) e = let same : n ≡ k = cc in ap NotTaken same
 
 module _ {A E : Type 0} {g h : Given A E} where
   pub same_answer : g ≡ h → g.answer ≡ h.answer
@@ -30,11 +15,14 @@ module _ {A E : Type 0} {g h : Given A E} where
   pub same_end : g ≡ h → g.end ≡ h.end
   same_end e = ap (λ (x : Given A E). x.end) e
 
-put_one : (a b : SidePut) → put_given a ≡ put_given b → a ≡ b
-put_one a b e = λ i. record { answer = done_one a.answer b.answer (same_answer e) i; side = same_end e i }
+given_one : (A E : Type 0) (a b : Result A Refusal) (s t : E) → given a s ≡ given b t → (a ≡ b) × (s ≡ t)
+given_one A E a b s t e = (answer_one a b (same_answer e), same_end e)
 
-take_one : (a b : SideTake) → take_given a ≡ take_given b → a ≡ b
-take_one a b e = λ i. record { answer = taken_one a.answer b.answer (same_answer e) i; side = same_end e i }
+making_one : (E : Type 0) (blank : E) (a b : Result E Refusal) → making blank a ≡ making blank b → a ≡ b
+making_one E blank (Ok s) (Ok t) e = ap Ok (same_end e)
+making_one E blank (Ok s) (Err r) e = absurd (gives_not (same_answer e))
+making_one E blank (Err r) (Ok s) e = absurd (gives_not (sym (same_answer e)))
+making_one E blank (Err r) (Err q) e = ap Err (number_one r q (refuses_one (same_answer e)))
 
 pub loses_nothing : LosesNothing
-loses_nothing = record { done = done_one; taken = taken_one; put = put_one; take = take_one }
+loses_nothing = record { given = given_one; making = making_one }

@@ -13,7 +13,7 @@ use Rattle.frame.specs.Message.{message_refusal}
 use Rattle.frame.specs.Refusal.{address_refusal, information_refusal}
 use Rattle.frame.specs.declared.Meaning.TheVariants.{I}
 use Rattle.frame.proofs.Laws.{pick_among, then_among, then_both}
-use Rattle.frame.proofs.Numbers.{numbers as frame-numbers}
+use Rattle.frame.proofs.Numbers.{message_numbers}
 use Rattle.side.specs.Right.{count_wrong, slot_wrong, sent_wrong, side_wrong, address_wrong}
 use Rattle.side.specs.Slot.{held_refusal, put_refusal, put_of, waits_refusal, take_refusal, take_of, room_refusal}
 use Rattle.side.specs.Promises.{Numbers}
@@ -42,10 +42,6 @@ wrong_numbers s =
     (then_both (slot_numbers s.held s.holds)
     (then_both (slot_numbers s.incoming s.waits)
     (sent_numbers s.sent s.holds))))
-
-message_numbers : (m : List ℕ) → Among (message_refusal m) (0 ∷ 10 ∷ 12 ∷ [])
-unfolding information_refusal
-message_numbers m = frame-numbers.information (I (record { 0 = 0 }) (record { 0 = 0 })) m
 
 held_numbers : (n : ℕ) → Among (held_refusal n) (0 ∷ 13 ∷ [])
 held_numbers n = pick_among (eqb n 0) (here refl) (there (here refl))

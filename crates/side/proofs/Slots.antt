@@ -19,8 +19,8 @@ use Rattle.side.specs.declared.rule.Ack.{Ack}
 use Rattle.side.specs.declared.rule.Ack.TheVariants.{ConfirmsNothing, Confirms, Astray}
 use Rattle.side.specs.declared.rule.Seen.{Seen}
 use Rattle.side.specs.declared.rule.Seen.TheVariants.{New, Duplicate, Strange}
-use Rattle.side.specs.declared.rule.Heard.{Heard}
-use Rattle.side.specs.declared.rule.Heard.TheVariants.{Irrecoverable, Accepted}
+use Rattle.std.specs.Prelude.{Option, None, Some}
+use Rattle.side.specs.declared.rule.Accepted.{Accepted}
 use Rattle.side.specs.declared.rule.Hearing.{Hearing}
 use Rattle.side.specs.declared.say.Saying.{Saying}
 use Rattle.side.proofs.Calls.{refusing_keeps}
@@ -69,9 +69,9 @@ module _ {H J : List ℕ → Type 0} where
       pick_cases (λ (h : Hearing). Slots H J h.side) (room s (length m)) _ _
       (λ t. record { held = a.held; incoming = lays s.incoming (room_small s (length m) t) a.incoming }) (λ t. a)
 
-  heard_slots : (m : List ℕ) (s : Side) (h : Heard) → Lays J m → Slots H J s → Slots H J (on_heard m s h).side
-  heard_slots m s Irrecoverable lays a = a
-  heard_slots m s (Accepted confirmed handed) lays a = hand_slots m confirmed s lays a
+  heard_slots : (m : List ℕ) (s : Side) (h : Option Accepted) → Lays J m → Slots H J s → Slots H J (on_heard m s h).side
+  heard_slots m s None lays a = a
+  heard_slots m s (Some k) lays a = hand_slots m k.confirmed s lays a
 
   i_slots : (s : Side) (k : Ack) (m : List ℕ) (n : Seen) → Lays J m → Slots H J s → Slots H J (on_i s k m n).side
   i_slots s k m New lays a = heard_slots m (on_nr s k).side (on_nr s k).heard lays (nr_slots s k a)

@@ -8,31 +8,31 @@ use lib.ListN.{length}
 use Rattle.frame.specs.declared.Meaning.TheVariants.{I, Rr, Rnr, Snrm, Disc, Ua, Frmr}
 use Rattle.frame.proofs.Laws.{pick_both}
 use Rattle.side.specs.Slot.{room}
-use Rattle.side.specs.Rule.{ack, seen, on_nr, released, hand_over, on_i, count_rule}
+use Rattle.side.specs.Rule.{ack, seen, accepted, on_nr, released, hand_over, on_i, count_rule}
 use Rattle.side.specs.Promises.{AllOrNothing}
 use Rattle.side.specs.declared.Side.{Side}
 use Rattle.side.specs.declared.rule.Ack.{Ack}
 use Rattle.side.specs.declared.rule.Ack.TheVariants.{ConfirmsNothing, Confirms, Astray}
 use Rattle.side.specs.declared.rule.Seen.{Seen}
 use Rattle.side.specs.declared.rule.Seen.TheVariants.{New, Duplicate, Strange}
-use Rattle.side.specs.declared.rule.Heard.TheVariants.{Irrecoverable, Accepted}
+use Rattle.std.specs.Prelude.{None}
 use Rattle.side.specs.declared.rule.Hearing.{Hearing}
 
-never : (a b : ℕ) → Accepted a b ≡ Irrecoverable → ⊥
+never : (a b : ℕ) → accepted a b ≡ None → ⊥
 never a b e = let z : ◌≡◌ {A = ℕ} 0 1 = cc in omega arith
 
 -- what is handed over, or finds no room, is accepted
-handed : (m : List ℕ) (confirmed : ℕ) (s : Side) → (hand_over m confirmed s).heard ≡ Irrecoverable → ⊥
+handed : (m : List ℕ) (confirmed : ℕ) (s : Side) → (hand_over m confirmed s).heard ≡ None → ⊥
 unfolding hand_over
 handed m confirmed s =
-    pick_both (λ (h : Hearing). h.heard ≡ Irrecoverable → ⊥) (room s (length m)) _ _ (never confirmed (length m)) (never confirmed 0)
+    pick_both (λ (h : Hearing). h.heard ≡ None → ⊥) (room s (length m)) _ _ (never confirmed (length m)) (never confirmed 0)
 
-nr_whole : (s : Side) (k : Ack) → (on_nr s k).heard ≡ Irrecoverable → (on_nr s k).side ≡ s
+nr_whole : (s : Side) (k : Ack) → (on_nr s k).heard ≡ None → (on_nr s k).side ≡ s
 nr_whole s ConfirmsNothing e = refl
 nr_whole s Confirms e = absurd (never s.holds 0 e)
 nr_whole s Astray e = refl
 
-i_whole : (s : Side) (k : Ack) (m : List ℕ) (n : Seen) → (on_i s k m n).heard ≡ Irrecoverable → (on_i s k m n).side ≡ s
+i_whole : (s : Side) (k : Ack) (m : List ℕ) (n : Seen) → (on_i s k m n).heard ≡ None → (on_i s k m n).side ≡ s
 i_whole s ConfirmsNothing m New e = absurd (handed m 0 s e)
 i_whole s Confirms m New e = absurd (handed m s.holds (released s) e)
 i_whole s Astray m New e = refl

@@ -1,11 +1,8 @@
 -- What a call that is handed an end gives back: its answer and the end, by one equation.
-use Rattle.std.specs.Prelude.{ℕ, eqb}
+use Rattle.std.specs.Prelude.{ℕ, eqb, Result, Ok, Err}
 use Rattle.frame.specs.Pick.{pick}
-use Rattle.frame.specs.Answer.{Answer, gives, refuses}
-use Rattle.side.specs.declared.answer.Outcome.{Outcome}
-use Rattle.side.specs.declared.answer.Outcome.TheVariants.{Done, Refused}
-use Rattle.side.specs.declared.answer.TakeAnswer.{TakeAnswer}
-use Rattle.side.specs.declared.answer.TakeAnswer.TheVariants.{Taken, Refused as NotTaken}
+use Rattle.frame.specs.Answer.{Answer, gives, refuses, number_of, answer}
+use Rattle.frame.specs.declared.number.Refusal.{Refusal}
 
 pub record Given (A E : Type 0) : Type 0 where
   pub answer : Answer A
@@ -32,12 +29,11 @@ abbrev pub size_given : {A : Type 0} → (A → ℕ) → Answer A → ℕ
 size_given size (gives v) = size v
 size_given size (refuses n) = 0
 
--- the number and the values of each case
-abbrev pub done : Outcome → Answer (Unit {0})
-done Done = gives tt
-done (Refused n) = refuses n
+-- the answer that the code gives, and the end as the call leaves it
+abbrev pub given : {A E : Type 0} → Result A Refusal → E → Given A E
+given r e = record { answer = answer r; end = e }
 
--- take gives the size of the message
-abbrev pub taken : TakeAnswer → Answer ℕ
-taken (Taken n) = gives n
-taken (NotTaken n) = refuses n
+-- an end that is made, or the number and no end: the blank one stands for it in the definition
+abbrev pub making : {E : Type 0} → E → Result E Refusal → Given (Unit {0}) E
+making blank (Ok e) = giving tt e
+making blank (Err r) = refused (number_of r) blank

@@ -1,5 +1,5 @@
 -- The count rule (01, "One end of a link"): "for I, RR, RNR".
-use Rattle.std.specs.Prelude.{ℕ, ◌+◌, ◌%◌, Bool, true, false, List, ◌++◌, eqb, length, drop}
+use Rattle.std.specs.Prelude.{ℕ, ◌+◌, ◌%◌, Bool, true, false, List, ◌++◌, eqb, length, drop, Option, None, Some}
 use Rattle.frame.specs.Pick.{pick}
 use Rattle.frame.specs.declared.SendCount.{SendCount}
 use Rattle.frame.specs.declared.ReceiveCount.{ReceiveCount}
@@ -12,8 +12,7 @@ use Rattle.side.specs.declared.rule.Ack.{Ack}
 use Rattle.side.specs.declared.rule.Ack.TheVariants.{ConfirmsNothing, Confirms, Astray}
 use Rattle.side.specs.declared.rule.Seen.{Seen}
 use Rattle.side.specs.declared.rule.Seen.TheVariants.{New, Duplicate, Strange}
-use Rattle.side.specs.declared.rule.Heard.{Heard}
-use Rattle.side.specs.declared.rule.Heard.TheVariants.{Irrecoverable, Accepted}
+use Rattle.side.specs.declared.rule.Accepted.{Accepted}
 use Rattle.side.specs.declared.rule.Hearing.{Hearing}
 
 -- 01, "Control bytes": each count "runs 0 to 7 and is followed by 0 after 7"
@@ -42,11 +41,15 @@ filled_with m s = with_incoming (m ++ drop (length m) s.incoming) (length m) s
 
 -- "An irrecoverable frame confirms nothing, hands over nothing and leaves every mark."
 abbrev pub irrecoverable : Side → Hearing
-irrecoverable s = record { heard = Irrecoverable; side = s }
+irrecoverable s = record { heard = None; side = s }
+
+-- the sizes of what is confirmed and of what is handed over
+abbrev pub accepted : ℕ → ℕ → Option Accepted
+accepted confirmed handed = Some (record { confirmed = confirmed; handed = handed })
 
 -- nothing is handed over; what Nr confirmed is confirmed
 abbrev pub not_taken : ℕ → Side → Hearing
-not_taken confirmed s = record { heard = Accepted confirmed 0; side = s }
+not_taken confirmed s = record { heard = accepted confirmed 0; side = s }
 
 -- what Nr says is done; a confirmed message is told by its size (0: none was held)
 abbrev pub on_nr : Side → Ack → Hearing
@@ -57,12 +60,12 @@ on_nr s Astray = irrecoverable s
 -- "if the incoming slot is empty it is handed over and Nr goes up, else it is not taken"
 unfoldable pub hand_over : List ℕ → ℕ → Side → Hearing
 hand_over m confirmed s =
-    pick (room s (length m)) (record { heard = Accepted confirmed (length m); side = filled_with m (advanced s) }) (not_taken confirmed s)
+    pick (room s (length m)) (record { heard = accepted confirmed (length m); side = filled_with m (advanced s) }) (not_taken confirmed s)
 
 -- an irrecoverable Nr hands over nothing
-abbrev pub on_heard : List ℕ → Side → Heard → Hearing
-on_heard m s Irrecoverable = irrecoverable s
-on_heard m s (Accepted confirmed handed) = hand_over m confirmed s
+abbrev pub on_heard : List ℕ → Side → Option Accepted → Hearing
+on_heard m s None = irrecoverable s
+on_heard m s (Some a) = hand_over m a.confirmed s
 
 -- a new message, after what Nr said
 abbrev pub on_new : List ℕ → Hearing → Hearing

@@ -2,12 +2,10 @@
 use Rattle.std.specs.Prelude.{ℕ, Bool, true, false, List, ◌++◌, eqb, ltb, leb, length, take, drop}
 use Rattle.frame.specs.Pick.{pick, ◌then◌}
 use Rattle.frame.specs.Message.{message_refusal}
-use Rattle.side.specs.Given.{Given, giving, refusing, size_given, done, taken}
+use Rattle.side.specs.Given.{Given, giving, refusing, size_given}
 use Rattle.side.specs.Side.{with_outgoing, with_incoming}
 use Rattle.side.specs.Right.{side_wrong}
 use Rattle.side.specs.declared.Side.{Side}
-use Rattle.side.specs.declared.slot.SidePut.{SidePut}
-use Rattle.side.specs.declared.slot.SideTake.{SideTake}
 
 -- 13: "a message is still held"
 abbrev pub held_refusal : ℕ → ℕ
@@ -25,10 +23,6 @@ with_held m s = with_outgoing (m ++ drop (length m) s.held) (length m) false s
 unfoldable pub put_of : Side → List ℕ → Given (Unit {0}) Side
 put_of s m = refusing (put_refusal s m) s (giving tt (with_held m s))
 
--- the number and the values of a result, and the side
-abbrev pub put_given : SidePut → Given (Unit {0}) Side
-put_given r = record { answer = done r.answer; end = r.side }
-
 -- 14: "incoming slot empty"; 11: "lent output too small", for the message's size
 abbrev pub waits_refusal : ℕ → ℕ → ℕ
 waits_refusal waits room = pick (eqb waits 0) 14 (pick (ltb room waits) 11 0)
@@ -44,10 +38,6 @@ emptied s = with_incoming s.incoming 0 s
 -- take "gives its size and empties the slot"
 unfoldable pub take_of : Side → ℕ → Given ℕ Side
 take_of s room = refusing (take_refusal s room) s (giving s.waits (emptied s))
-
--- the same for take
-abbrev pub take_given : SideTake → Given ℕ Side
-take_given r = record { answer = taken r.answer; end = r.side }
 
 -- "On success the bytes past the information stay, all of them where there is none."
 abbrev pub laid : ℕ → List ℕ → List ℕ → List ℕ

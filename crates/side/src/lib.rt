@@ -13,6 +13,7 @@ pub mod say;
 pub mod slot;
 
 // The held message is the first `holds` bytes of `held`, the waiting one the first `waits` bytes of `incoming`; a size of 0 means that there is none.
+// Document 01 names this form ("arrays for the held and the incoming message, and their sizes"), and the layout for C has its fields.
 #[derive(Clone, Copy)]
 pub struct Side {
     pub ns: SendCount,
@@ -49,42 +50,40 @@ impl Side {
     pub fn restarted(self) -> Side
         ensures { result ≡ restarted self }
     {
-        let mut side = self;
-        let ns = SendCount(0);
-        let nr = ReceiveCount(0);
-        side.ns = ns;
-        side.nr = nr;
-        side
+        Side {
+            ns: SendCount(0),
+            nr: ReceiveCount(0),
+            ..self
+        }
     }
 
     // The mark for messages in doubt is cleared.
     pub fn cleared(self) -> Side
         ensures { result ≡ cleared self }
     {
-        let mut side = self;
-        side.doubt = false;
-        side
+        Side {
+            doubt: false,
+            ..self
+        }
     }
 
     // Counts to zero; a message already sent is dropped and leaves its mark, an unsent one stays.
+    #[tactic(auto, unfolding(crate::specs::Side::synchronised))]
     pub fn synchronised(self) -> Side
         ensures { result ≡ synchronised self }
     {
         let side = self.restarted();
-        let sent = self.sent;
-        if sent {
-            return side.dropped();
-        }
-        side
+        if side.sent { side.dropped() } else { side }
     }
 
     fn dropped(self) -> Side
         ensures { result ≡ dropped self }
     {
-        let mut side = self;
-        side.holds = 0;
-        side.sent = false;
-        side.doubt = true;
-        side
+        Side {
+            holds: 0,
+            sent: false,
+            doubt: true,
+            ..self
+        }
     }
 }

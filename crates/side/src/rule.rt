@@ -2,11 +2,11 @@
 ghost use Rattle.std.specs.Prelude.{◌≤◌, ◌≡◌, length};
 ghost use Rattle.side.specs.Rule.{ack, advanced, count_rule, filled_with, hand_over, irrecoverable, is_rnr, next, not_taken, on_i, on_new, on_nr, seen};
 
-use crate::{Side, slot};
+use crate::Side;
 use frame::{Meaning, ReceiveCount, SendCount};
 
 // What the Nr of a frame says of the held message.
-#[derive(Clone, Copy)]
+#[derive(Clone, Copy, Debug, PartialEq, Eq)]
 pub enum Ack {
     ConfirmsNothing,
     Confirms,
@@ -14,23 +14,25 @@ pub enum Ack {
 }
 
 // What the Ns of an I frame says of its message.
-#[derive(Clone, Copy)]
+#[derive(Clone, Copy, Debug, PartialEq, Eq)]
 pub enum Seen {
     New,
     Duplicate,
     Strange,
 }
 
-// Irrecoverable, or the size of the message confirmed and that of the message handed over (0: none).
-#[derive(Clone, Copy)]
-pub enum Heard {
-    Irrecoverable,
-    Accepted(usize, usize),
+// The size of the message that a frame confirmed and of the message that it handed over (0: none, as in `News`).
+#[derive(Clone, Copy, Debug, PartialEq, Eq)]
+pub struct Accepted {
+    pub confirmed: usize,
+    pub handed: usize,
 }
 
+// What a frame brought, nothing where it is irrecoverable, and the side after it. The inner steps go from a value to a value, as the definitions do: an
+// irrecoverable frame leaves the side as it was handed in, and nothing has to be put back.
 #[derive(Clone, Copy)]
 pub struct Hearing {
-    pub heard: Heard,
+    pub heard: Option<Accepted>,
     pub side: Side,
 }
 
@@ -41,47 +43,35 @@ pub fn next(count: u8) -> u8
     (count % 8 + 1) % 8
 }
 
+#[tactic(auto, unfolding(crate::specs::Rule::is_rnr))]
 pub fn is_rnr(meaning: Meaning) -> bool
     ensures { result ≡ is_rnr meaning }
 {
-    match meaning {
-        Meaning::I(_, _) => false,
-        Meaning::Rr(_) => false,
-        Meaning::Rnr(_) => true,
-        Meaning::Snrm => false,
-        Meaning::Disc => false,
-        Meaning::Ua => false,
-        Meaning::Frmr => false,
-    }
+    matches!(meaning, Meaning::Rnr(_))
 }
 
 impl Side {
     // The count rule. To the ends that go by it any other frame is as bad as an irrecoverable one.
+    #[tactic(auto, unfolding(crate::specs::Rule::count_rule))]
     pub fn hear(self, meaning: Meaning, information: &[u8]) -> Hearing
         ensures { result ≡ count_rule self meaning information.now }
     {
         match meaning {
             Meaning::I(ns, nr) => self.hear_i(ns, nr, information),
-            Meaning::Rr(nr) => self.hear_nr(nr),
-            Meaning::Rnr(nr) => self.hear_nr(nr),
-            Meaning::Snrm => self.irrecoverable(),
-            Meaning::Disc => self.irrecoverable(),
-            Meaning::Ua => self.irrecoverable(),
-            Meaning::Frmr => self.irrecoverable(),
+            Meaning::Rr(nr) | Meaning::Rnr(nr) => self.hear_nr(nr),
+            _ => self.irrecoverable(),
         }
     }
 
     // The judgement of Nr against own Ns: all that request 109 changes.
+    #[tactic(auto, unfolding(crate::specs::Rule::ack))]
     fn acks(self, nr: ReceiveCount) -> Ack
         ensures { result ≡ ack self nr }
     {
-        let told = nr.0;
-        let own = self.ns.0;
-        if told == own {
+        if nr.0 == self.ns.0 {
             return Ack::ConfirmsNothing;
         }
-        let ahead = next(own);
-        if told == ahead {
+        if nr.0 == next(self.ns.0) {
             return Ack::Confirms;
         }
         Ack::Astray
@@ -90,8 +80,7 @@ impl Side {
     fn hear_nr(self, nr: ReceiveCount) -> Hearing
         ensures { result ≡ on_nr self (ack self nr) }
     {
-        let ack = self.acks(nr);
-        match ack {
+        match self.acks(nr) {
             Ack::ConfirmsNothing => self.not_taken(0),
             Ack::Confirms => self.confirmed(),
             Ack::Astray => self.irrecoverable(),
@@ -99,16 +88,14 @@ impl Side {
     }
 
     // The judgement of Ns against own Nr.
+    #[tactic(auto, unfolding(crate::specs::Rule::seen))]
     fn sees(self, ns: SendCount) -> Seen
         ensures { result ≡ seen self ns }
     {
-        let told = ns.0;
-        let own = self.nr.0;
-        if told == own {
+        if ns.0 == self.nr.0 {
             return Seen::New;
         }
-        let after = next(told);
-        if after == own {
+        if next(ns.0) == self.nr.0 {
             return Seen::Duplicate;
         }
         Seen::Strange
@@ -118,8 +105,7 @@ impl Side {
     fn hear_i(self, ns: SendCount, nr: ReceiveCount, information: &[u8]) -> Hearing
         ensures { result ≡ on_i self (ack self nr) information.now (seen self ns) }
     {
-        let seen = self.sees(ns);
-        match seen {
+        match self.sees(ns) {
             Seen::New => self.hear_new(nr, information),
             Seen::Duplicate => self.hear_nr(nr),
             Seen::Strange => self.irrecoverable(),
@@ -130,38 +116,38 @@ impl Side {
         ensures { result ≡ on_new information.now (on_nr self (ack self nr)) }
     {
         let hearing = self.hear_nr(nr);
-        let heard = hearing.heard;
-        match heard {
-            Heard::Irrecoverable => hearing,
-            Heard::Accepted(confirmed, _) => {
-                let side = hearing.side;
-                side.hand_over(confirmed, information)
-            }
+        match hearing.heard {
+            None => hearing,
+            Some(accepted) => hearing.side.hand_over(accepted.confirmed, information),
         }
     }
 
     // A new message goes into the empty slot and Nr goes up; else it is not taken and Nr stays.
+    #[tactic(auto, using(crate::proofs::Parts::room_small), unfolding(crate::specs::Rule::hand_over))]
     fn hand_over(self, confirmed: usize, message: &[u8]) -> Hearing
         ensures { result ≡ hand_over message.now confirmed self }
     {
-        let advanced = self.advanced();
         let size = message.len();
-        let room = self.room(size);
-        if room {
-            let side = advanced.filled_with(message);
-            return Hearing {
-                heard: Heard::Accepted(confirmed, size),
-                side,
-            };
+        if !self.room(size) {
+            return self.not_taken(confirmed);
         }
-        self.not_taken(confirmed)
+        Hearing {
+            heard: Some(Accepted {
+                confirmed,
+                handed: size,
+            }),
+            side: self.advanced().filled_with(message),
+        }
     }
 
     fn not_taken(self, confirmed: usize) -> Hearing
         ensures { result ≡ not_taken confirmed self }
     {
         Hearing {
-            heard: Heard::Accepted(confirmed, 0),
+            heard: Some(Accepted {
+                confirmed,
+                handed: 0,
+            }),
             side: self,
         }
     }
@@ -169,40 +155,40 @@ impl Side {
     fn advanced(self) -> Side
         ensures { result ≡ advanced self }
     {
-        let mut side = self;
-        let own = self.nr.0;
-        let up = next(own);
-        let nr = ReceiveCount(up);
-        side.nr = nr;
-        side
+        Side {
+            nr: ReceiveCount(next(self.nr.0)),
+            ..self
+        }
     }
 
     fn filled_with(self, message: &[u8]) -> Side
         requires { length message.now ≤ 253 }
         ensures { result ≡ filled_with message.now self }
     {
-        let mut side = self;
-        let incoming = self.incoming;
-        let filled = slot::filled(incoming, message);
-        side.incoming = filled;
-        side.waits = message.len();
-        side
+        let mut incoming = self.incoming;
+        incoming[..message.len()].copy_from_slice(message);
+        Side {
+            incoming,
+            waits: message.len(),
+            ..self
+        }
     }
 
     // The held message, if any, is released and Ns goes up.
     fn confirmed(self) -> Hearing
         ensures { result ≡ on_nr self Ack.Confirms }
     {
-        let holds = self.holds;
-        let mut side = self;
-        let own = self.ns.0;
-        let up = next(own);
-        let ns = SendCount(up);
-        side.ns = ns;
-        side.holds = 0;
-        side.sent = false;
+        let side = Side {
+            ns: SendCount(next(self.ns.0)),
+            holds: 0,
+            sent: false,
+            ..self
+        };
         Hearing {
-            heard: Heard::Accepted(holds, 0),
+            heard: Some(Accepted {
+                confirmed: self.holds,
+                handed: 0,
+            }),
             side,
         }
     }
@@ -211,7 +197,7 @@ impl Side {
         ensures { result ≡ irrecoverable self }
     {
         Hearing {
-            heard: Heard::Irrecoverable,
+            heard: None,
             side: self,
         }
     }

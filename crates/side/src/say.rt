@@ -1,11 +1,11 @@
 // What an end says that goes by the count rule: I, RNR or RR, with the counts as they stand.
 ghost use Rattle.std.specs.Prelude.{◌≡◌};
-ghost use Rattle.side.specs.Say.{informs, says, says_held, status};
+ghost use Rattle.side.specs.Say.{informs, says, status};
 
 use crate::Side;
 use frame::Meaning;
 
-// The meaning of the frame, the size of its information (0 but for I), and the side after it is given out.
+// The meaning of the frame, the size of its information (0 but for I), and the side after it is given out: a value, like `Hearing`.
 #[derive(Clone, Copy)]
 pub struct Saying {
     pub meaning: Meaning,
@@ -15,55 +15,38 @@ pub struct Saying {
 
 impl Side {
     // I where the end may send it and a message is held; else RNR if the incoming slot is full; else RR.
+    #[tactic(auto, unfolding(crate::specs::Say::says, crate::specs::Say::says_held))]
     pub fn say(self, may: bool) -> Saying
         ensures { result ≡ says may self }
     {
-        if may {
-            return self.say_held();
+        if may && self.holds != 0 {
+            return self.informs();
         }
         self.status()
-    }
-
-    fn say_held(self) -> Saying
-        ensures { result ≡ says_held self }
-    {
-        let holds = self.holds;
-        if holds == 0 {
-            return self.status();
-        }
-        self.informs()
     }
 
     // The held message is marked sent as it is given out, arrived or lost.
     fn informs(self) -> Saying
         ensures { result ≡ informs self }
     {
-        let ns = self.ns;
-        let nr = self.nr;
-        let holds = self.holds;
-        let mut side = self;
-        side.sent = true;
         Saying {
-            meaning: Meaning::I(ns, nr),
-            size: holds,
-            side,
+            meaning: Meaning::I(self.ns, self.nr),
+            size: self.holds,
+            side: Side { sent: true, ..self },
         }
     }
 
+    #[tactic(auto, unfolding(crate::specs::Say::status))]
     fn status(self) -> Saying
         ensures { result ≡ status self }
     {
-        let nr = self.nr;
-        let full = self.full();
-        if full {
-            return Saying {
-                meaning: Meaning::Rnr(nr),
-                size: 0,
-                side: self,
-            };
-        }
+        let meaning = if self.full() {
+            Meaning::Rnr(self.nr)
+        } else {
+            Meaning::Rr(self.nr)
+        };
         Saying {
-            meaning: Meaning::Rr(nr),
+            meaning,
             size: 0,
             side: self,
         }

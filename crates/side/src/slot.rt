@@ -1,176 +1,97 @@
 // The two slots: put fills the outgoing one, take empties the incoming one.
-ghost use Rattle.std.specs.Prelude.{◌≤◌, ◌≡◌, ◌++◌, drop, length};
-ghost use Rattle.side.specs.Slot.{emptied, full, laid_where, put_given, put_of, put_refusal, room, room_refusal, take_bytes, take_given, take_of, take_refusal, with_held};
+ghost use Rattle.std.specs.Prelude.{◌≡◌, length};
+ghost use Rattle.frame.specs.Answer.{refusal_in};
+ghost use Rattle.side.specs.Given.{given};
+ghost use Rattle.side.specs.Slot.{full, laid_where, put_of, put_refusal, room, room_refusal, take_bytes, take_of, take_refusal};
 
 use crate::Side;
-use crate::answer::{Outcome, TakeAnswer};
-use frame::{message, number};
-
-#[derive(Clone, Copy)]
-pub struct SidePut {
-    pub answer: Outcome,
-    pub side: Side,
-}
-
-#[derive(Clone, Copy)]
-pub struct SideTake {
-    pub answer: TakeAnswer,
-    pub side: Side,
-}
+use frame::{Refusal, message};
 
 impl Side {
     // Makes the message the held one, unsent: 30, 10, 12, 13.
-    pub fn put(self, message: &[u8]) -> SidePut
-        ensures { put_given result ≡ put_of self message.now }
+    #[tactic(auto, using(crate::proofs::Parts::put_fits), unfolding(crate::specs::Slot::put_of))]
+    pub fn put(&mut self, message: &[u8]) -> Result<(), Refusal>
+        ensures { given result self.new ≡ put_of self.old message.now }
     {
-        let refusal = self.put_refusal(message);
-        if refusal != 0 {
-            return SidePut {
-                answer: Outcome::Refused(refusal),
-                side: self,
-            };
-        }
-        let side = self.with_held(message);
-        SidePut {
-            answer: Outcome::Done,
-            side,
-        }
+        self.put_refusal(message)?;
+        self.held[..message.len()].copy_from_slice(message);
+        self.holds = message.len();
+        self.sent = false;
+        Ok(())
     }
 
-    fn put_refusal(self, message: &[u8]) -> u8
-        ensures { result ≡ put_refusal self message.now }
+    #[tactic(auto, unfolding(crate::specs::Slot::put_refusal))]
+    fn put_refusal(&self, message: &[u8]) -> Result<(), Refusal>
+        ensures { refusal_in result ≡ put_refusal self.now message.now }
     {
-        let wrong = self.wrong();
-        if wrong != 0 {
-            return wrong;
+        self.wrong()?;
+        message::message_refusal(message)?;
+        if self.holds != 0 {
+            return Err(Refusal::StillHeld);
         }
-        let refusal = message::message_refusal(message);
-        if refusal != 0 {
-            return refusal;
-        }
-        let holds = self.holds;
-        if holds == 0 {
-            return 0;
-        }
-        number::STILL_HELD
-    }
-
-    fn with_held(self, message: &[u8]) -> Side
-        requires { length message.now ≤ 253 }
-        ensures { result ≡ with_held message.now self }
-    {
-        let mut side = self;
-        let held = self.held;
-        let filled = filled(held, message);
-        side.held = filled;
-        side.holds = message.len();
-        side.sent = false;
-        side
+        Ok(())
     }
 
     // Writes the waiting message to the lent buffer, gives its size and empties the slot: 30, 14, 11.
-    pub fn take(self, out: &mut [u8]) -> SideTake
-        ensures answer { take_given result ≡ take_of self (length out.old) }
-        ensures bytes { out.new ≡ take_bytes self out.old }
+    #[tactic(auto, using(crate::proofs::Parts::take_fits), unfolding(crate::specs::Slot::take_of, crate::specs::Slot::laid_where))]
+    pub fn take(&mut self, out: &mut [u8]) -> Result<usize, Refusal>
+        ensures answer { given result self.new ≡ take_of self.old (length out.old) }
+        ensures bytes { out.new ≡ take_bytes self.old out.old }
     {
-        let room = out.len();
-        let refusal = self.take_refusal(room);
-        if refusal != 0 {
-            return SideTake {
-                answer: TakeAnswer::Refused(refusal),
-                side: self,
-            };
-        }
-        let incoming = self.incoming;
-        let waits = self.waits;
-        lay(incoming, waits, out);
-        let side = self.emptied();
-        SideTake {
-            answer: TakeAnswer::Taken(waits),
-            side,
-        }
+        self.take_refusal(out.len())?;
+        let size = self.waits;
+        lay(&self.incoming, size, out);
+        self.waits = 0;
+        Ok(size)
     }
 
-    fn take_refusal(self, room: usize) -> u8
-        ensures { result ≡ take_refusal self room }
+    #[tactic(auto, unfolding(crate::specs::Slot::take_refusal))]
+    fn take_refusal(&self, room: usize) -> Result<(), Refusal>
+        ensures { refusal_in result ≡ take_refusal self.now room }
     {
-        let wrong = self.wrong();
-        if wrong != 0 {
-            return wrong;
+        self.wrong()?;
+        if self.waits == 0 {
+            return Err(Refusal::SlotEmpty);
         }
-        let waits = self.waits;
-        if waits == 0 {
-            return number::SLOT_EMPTY;
+        if room < self.waits {
+            return Err(Refusal::Output);
         }
-        if room < waits {
-            return number::OUTPUT;
-        }
-        0
-    }
-
-    fn emptied(self) -> Side
-        ensures { result ≡ emptied self }
-    {
-        let mut side = self;
-        side.waits = 0;
-        side
+        Ok(())
     }
 
     // Whether the incoming slot is full.
-    pub fn full(self) -> bool
-        ensures { result ≡ full self }
+    #[tactic(auto, unfolding(crate::specs::Slot::full))]
+    pub fn full(&self) -> bool
+        ensures { result ≡ full self.now }
     {
-        let waits = self.waits;
-        if waits == 0 {
-            return false;
-        }
-        true
+        self.waits != 0
     }
 
     // Whether a message of that size finds room in the incoming slot.
-    pub fn room(self, size: usize) -> bool
-        ensures { result ≡ room self size }
+    #[tactic(auto, unfolding(crate::specs::Slot::room))]
+    pub fn room(&self, size: usize) -> bool
+        ensures { result ≡ room self.now size }
     {
-        let full = self.full();
-        if full {
-            return false;
-        }
-        if size <= Side::MOST {
-            return true;
-        }
-        false
+        !self.full() && size <= Side::MOST
     }
-}
-
-// The slot's bytes with the message over the first of them.
-pub(crate) fn filled(slot: [u8; 253], message: &[u8]) -> [u8; 253]
-    requires { length message.now ≤ 253 }
-    ensures { result ≡ message.now ++ drop (length message.now) slot }
-{
-    let mut bytes = slot;
-    bytes[..message.len()].copy_from_slice(message);
-    bytes
 }
 
 // Lays the first `size` bytes of a slot over the first of `out`, where both have as many; all other bytes of `out` stay.
-pub fn lay(slot: [u8; 253], size: usize, out: &mut [u8])
-    ensures { out.new ≡ laid_where size slot out.old }
+#[tactic(auto, unfolding(crate::specs::Slot::laid_where))]
+pub fn lay(slot: &[u8; 253], size: usize, out: &mut [u8])
+    ensures { out.new ≡ laid_where size slot.now out.old }
 {
-    if Side::MOST < size {
-        return;
+    if size <= Side::MOST && size <= out.len() {
+        out[..size].copy_from_slice(&slot[..size]);
     }
-    if out.len() < size {
-        return;
-    }
-    out[..size].copy_from_slice(&slot[..size]);
 }
 
-// 11 of the buffer lent to an order or a slave step, else 0.
-pub fn room_refusal(room: usize) -> u8
-    ensures { result ≡ room_refusal room }
+// 11 of the buffer lent to an order or a slave step.
+pub fn room_refusal(room: usize) -> Result<(), Refusal>
+    ensures { refusal_in result ≡ room_refusal room }
 {
     if room < Side::MOST {
-        return number::OUTPUT;
+        return Err(Refusal::Output);
     }
-    0
+    Ok(())
 }

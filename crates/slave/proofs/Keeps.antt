@@ -17,8 +17,8 @@ use Rattle.side.specs.Slot.{room_refusal, put_of as side_put, take_of as side_ta
 use Rattle.side.specs.Rule.{count_rule, is_rnr}
 use Rattle.side.specs.declared.Side.{Side}
 use Rattle.side.specs.declared.answer.Change.{Change}
-use Rattle.side.specs.declared.rule.Heard.{Heard}
-use Rattle.side.specs.declared.rule.Heard.TheVariants.{Irrecoverable, Accepted}
+use Rattle.std.specs.Prelude.{Option, None, Some}
+use Rattle.side.specs.declared.rule.Accepted.{Accepted}
 use Rattle.side.proofs.Calls.{refusing_keeps}
 use Rattle.side.proofs.Keeps.{keeps as side-keeps, says_small}
 use Rattle.slave.specs.Slave.{slave_wrong, begun, on_side, make_of, put_of, take_of, restart_of, clear_of}
@@ -48,10 +48,10 @@ ndm_kept s Disc r = answers-kept s s.side Ndm Ua _ r
 ndm_kept s Ua r = answers-kept s s.side Ndm Frmr _ r
 ndm_kept s Frmr r = answers-kept s s.side Ndm Frmr _ r
 
-heard-kept : (s : Slave) (f : Meaning) (t : Side) (h : Heard) → side_wrong s.side ≡ 0 → side_wrong t ≡ 0 → Kept s (on_heard s f t h)
+heard-kept : (s : Slave) (f : Meaning) (t : Side) (h : Option Accepted) → side_wrong s.side ≡ 0 → side_wrong t ≡ 0 → Kept s (on_heard s f t h)
 unfolding responds
-heard-kept s f t Irrecoverable r q = answers-kept s s.side Ndm Frmr _ r
-heard-kept s f t (Accepted confirmed handed) r q =
+heard-kept s f t None r q = answers-kept s s.side Ndm Frmr _ r
+heard-kept s f t (Some k) r q =
     record { side = side-keeps.say (not (is_rnr f)) t q; address = refl; small = says_small (not (is_rnr f)) t q }
 
 in_kept : (q : Mode) (s : Slave) (f : Meaning) (m : List ℕ) → frame_refusal f m ≡ 0 → side_wrong s.side ≡ 0 → Kept s (moved_in q s f m)

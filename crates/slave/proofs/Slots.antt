@@ -9,8 +9,8 @@ use Rattle.side.specs.Right.{address_wrong}
 use Rattle.side.specs.Side.{Slots}
 use Rattle.side.specs.Rule.{count_rule, is_rnr}
 use Rattle.side.specs.declared.Side.{Side}
-use Rattle.side.specs.declared.rule.Heard.{Heard}
-use Rattle.side.specs.declared.rule.Heard.TheVariants.{Irrecoverable, Accepted}
+use Rattle.std.specs.Prelude.{Option, None, Some}
+use Rattle.side.specs.declared.rule.Accepted.{Accepted}
 use Rattle.side.proofs.Calls.{refusing_keeps}
 use Rattle.side.proofs.Slots.{Lays, put_slots, take_slots, cleared_slots, restarted_slots, synchronised_slots, rule_slots, says_slots}
 use Rattle.slave.specs.Slave.{slave_wrong, put_of, take_of, restart_of, clear_of}
@@ -41,10 +41,10 @@ module _ {H J : List ℕ → Type 0} where
   ndm_slots s Ua a = a
   ndm_slots s Frmr a = a
 
-  heard_slots : (s : Slave) (f : Meaning) (t : Side) (h : Heard) → Slots H J s.side → Slots H J t → Slots H J (on_heard s f t h).slave.side
+  heard_slots : (s : Slave) (f : Meaning) (t : Side) (h : Option Accepted) → Slots H J s.side → Slots H J t → Slots H J (on_heard s f t h).slave.side
   unfolding responds
-  heard_slots s f t Irrecoverable a b = a
-  heard_slots s f t (Accepted confirmed handed) a b = says_slots (not (is_rnr f)) t b
+  heard_slots s f t None a b = a
+  heard_slots s f t (Some k) a b = says_slots (not (is_rnr f)) t b
 
   moved_slots : (q : Mode) (s : Slave) (f : Meaning) (k : List ℕ) → Lays J k → Slots H J s.side → Slots H J (moved_in q s f k).slave.side
   unfolding in_nrm

@@ -1,16 +1,13 @@
 -- What is promised of this room beside each function's contract. The proofs stand in proofs/Keeps, Blank, Numbers and LosesNothing.
-use Rattle.std.specs.Prelude.{ℕ, ◌≡◌, List, [], ◌∷◌}
+use Rattle.std.specs.Prelude.{ℕ, ◌≡◌, List, [], ◌∷◌, Result}
 use Rattle.frame.specs.Answer.{Among, Lists}
 use Rattle.frame.specs.Refusal.{address_refusal}
+use Rattle.frame.specs.declared.number.Refusal.{Refusal}
 use Rattle.frame.specs.declared.Meaning.{Meaning}
-use Rattle.side.specs.Given.{refused}
-use Rattle.slave.specs.Slave.{slave_wrong, blank, done_given, take_given, make_of, put_of, take_of, restart_of, clear_of}
-use Rattle.slave.specs.Step.{responded, step_given, step_of}
+use Rattle.side.specs.Given.{refused, making}
+use Rattle.slave.specs.Slave.{slave_wrong, blank, make_of, put_of, take_of, restart_of, clear_of}
+use Rattle.slave.specs.Step.{step_of}
 use Rattle.slave.specs.declared.Slave.{Slave}
-use Rattle.slave.specs.declared.SlaveDone.{SlaveDone}
-use Rattle.slave.specs.declared.SlaveTake.{SlaveTake}
-use Rattle.slave.specs.declared.step.StepAnswer.{StepAnswer}
-use Rattle.slave.specs.declared.step.SlaveStep.{SlaveStep}
 
 -- number 30 finds nothing wrong
 abbrev pub Right : Slave → Type 0
@@ -25,7 +22,7 @@ pub record Keeps : Type 0 where
   pub restart : (s : Slave) → Right s → Right (restart_of s).end
   pub clear : (s : Slave) → Right s → Right (clear_of s).end
 
--- a refused making gives the blank end, which every call refuses with 30
+-- the definition of a refused making has the blank end, which every call refuses with 30
 pub record BlankRefused : Type 0 where
   pub make : (a : ℕ) → (address_refusal a ≡ 0 → ⊥) → (make_of a).end ≡ blank
   pub put : (m : List ℕ) → put_of blank m ≡ refused 30 blank
@@ -44,9 +41,6 @@ pub record Numbers : Type 0 where
   pub restart : (s : Slave) → Lists (30 ∷ []) (restart_of s).answer
   pub clear : (s : Slave) → Lists (30 ∷ []) (clear_of s).answer
 
--- the definitions that list an answer's number and values lose nothing, and those of whole results neither
-pub record LosesNothing : Type 0 where
-  pub responded : (a b : StepAnswer) → responded a ≡ responded b → a ≡ b
-  pub done : (a b : SlaveDone) → done_given a ≡ done_given b → a ≡ b
-  pub take : (a b : SlaveTake) → take_given a ≡ take_given b → a ≡ b
-  pub step : (a b : SlaveStep) → step_given a ≡ step_given b → a ≡ b
+-- the definition that says what a making gives loses nothing; that of the other calls is side's `given`
+abbrev pub LosesNothing : Type 0
+LosesNothing = (a b : Result Slave Refusal) → making blank a ≡ making blank b → a ≡ b

@@ -2,15 +2,13 @@
 use Rattle.std.specs.Prelude.{ℕ, List, length}
 use Rattle.frame.specs.Pick.{◌then◌}
 use Rattle.frame.specs.Refusal.{address_refusal}
-use Rattle.side.specs.Given.{Given, giving, refusing, lifted, size_given, done, taken}
+use Rattle.side.specs.Given.{Given, giving, refusing, lifted, size_given}
 use Rattle.side.specs.Side.{fresh, restarted, cleared}
 use Rattle.side.specs.Right.{side_wrong, address_wrong}
 use Rattle.side.specs.Slot.{laid, put_of as side_put, take_of as side_take}
 use Rattle.side.specs.declared.Side.{Side}
 use Rattle.slave.specs.declared.Mode.TheVariants.{Ndm}
 use Rattle.slave.specs.declared.Slave.{Slave}
-use Rattle.slave.specs.declared.SlaveDone.{SlaveDone}
-use Rattle.slave.specs.declared.SlaveTake.{SlaveTake}
 
 -- 30: the address, and what both ends hold
 unfoldable pub slave_wrong : Slave → ℕ
@@ -20,21 +18,13 @@ slave_wrong s = address_wrong s.address then side_wrong s.side
 abbrev pub begun : Side → ℕ → Slave
 begun t a = record { side = t; mode = Ndm; address = a }
 
--- the end that a refused making gives: its address is against 8
+-- the end that stands in the definition of a refused making, which gives none: its address is against 8
 abbrev pub blank : Slave
 blank = begun fresh 0
 
 -- the same slave over another side
 abbrev pub on_side : Slave → Side → Slave
 on_side s t = record { side = t; mode = s.mode; address = s.address }
-
--- the number and the values of each call, and the end
-abbrev pub done_given : SlaveDone → Given (Unit {0}) Slave
-done_given r = record { answer = done r.answer; end = r.slave }
-
--- the same for take
-abbrev pub take_given : SlaveTake → Given ℕ Slave
-take_given r = record { answer = taken r.answer; end = r.slave }
 
 -- "Making a link: 8 .. (the slave end has no limit and never gives 15)"
 unfoldable pub make_of : ℕ → Given (Unit {0}) Slave

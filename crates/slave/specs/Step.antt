@@ -1,7 +1,6 @@
 -- The slave's step (01, "Slave"; 000, table 3).
-use Rattle.std.specs.Prelude.{ℕ, not, List, eqb, length}
+use Rattle.std.specs.Prelude.{ℕ, not, List, eqb, length, Option, None, Some}
 use Rattle.frame.specs.Pick.{pick, ◌then◌}
-use Rattle.frame.specs.Answer.{Answer, gives, refuses}
 use Rattle.frame.specs.Refusal.{frame_refusal}
 use Rattle.frame.specs.declared.Meaning.{Meaning}
 use Rattle.frame.specs.declared.Meaning.TheVariants.{I, Rr, Rnr, Snrm, Disc, Ua, Frmr}
@@ -13,17 +12,13 @@ use Rattle.side.specs.Say.{says}
 use Rattle.side.specs.declared.Side.{Side}
 use Rattle.side.specs.declared.answer.Change.{Change}
 use Rattle.side.specs.declared.answer.Change.TheVariants.{Same, Gained, Lost}
-use Rattle.side.specs.declared.answer.Line.{Line}
+use Rattle.frame.specs.declared.Line.{Line}
 use Rattle.side.specs.declared.answer.News.{News}
-use Rattle.side.specs.declared.rule.Heard.{Heard}
-use Rattle.side.specs.declared.rule.Heard.TheVariants.{Irrecoverable, Accepted}
+use Rattle.side.specs.declared.rule.Accepted.{Accepted}
 use Rattle.slave.specs.Slave.{slave_wrong}
 use Rattle.slave.specs.declared.Mode.{Mode}
 use Rattle.slave.specs.declared.Mode.TheVariants.{Ndm, Nrm}
 use Rattle.slave.specs.declared.Slave.{Slave}
-use Rattle.slave.specs.declared.step.StepAnswer.{StepAnswer}
-use Rattle.slave.specs.declared.step.StepAnswer.TheVariants.{Responds, Refused}
-use Rattle.slave.specs.declared.step.SlaveStep.{SlaveStep}
 use Rattle.slave.specs.declared.step.Moved.{Moved}
 
 -- 19: "frame for another address"
@@ -63,9 +58,9 @@ responds s f t confirmed handed =
     }
 
 -- "Irrecoverable or any other frame: FRMR and NDM."
-abbrev pub on_heard : Slave → Meaning → Side → Heard → Moved
-on_heard s f t Irrecoverable = answers s s.side Ndm Frmr Lost
-on_heard s f t (Accepted confirmed handed) = responds s f t confirmed handed
+abbrev pub on_heard : Slave → Meaning → Side → Option Accepted → Moved
+on_heard s f t None = answers s s.side Ndm Frmr Lost
+on_heard s f t (Some a) = responds s f t a.confirmed a.handed
 
 -- "NRM: I, RR, RNR by the count rule"
 unfoldable pub in_nrm : Slave → Meaning → List ℕ → Moved
@@ -79,15 +74,6 @@ moved_in Nrm s f m = in_nrm s f m
 -- what an order that is not refused does
 unfoldable pub moved : Slave → Meaning → List ℕ → Moved
 moved s f m = moved_in s.mode s f m
-
--- the number and the values of each case: what goes on the line, and what the order brought
-abbrev pub responded : StepAnswer → Answer (Line × News)
-responded (Responds l n) = gives (l, n)
-responded (Refused k) = refuses k
-
--- the same for the whole result
-abbrev pub step_given : SlaveStep → Given (Line × News) Slave
-step_given r = record { answer = responded r.answer; end = r.slave }
 
 -- "A slave step refused by 9, 10, 12 or 19 sends no response and changes no mode"
 unfoldable pub step_of : Slave → ℕ → Meaning → List ℕ → ℕ → Given (Line × News) Slave

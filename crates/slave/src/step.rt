@@ -1,26 +1,16 @@
 // The slave's step: an order comes in, and the response to it goes on the line.
 ghost use Rattle.std.specs.Prelude.{◌≡◌, length};
-ghost use Rattle.slave.specs.Step.{answers, in_ndm, in_nrm, moved, other_refusal, responds, step_bytes, step_given, step_of, step_refusal};
+ghost use Rattle.frame.specs.Answer.{refusal_in};
+ghost use Rattle.side.specs.Given.{given};
+ghost use Rattle.slave.specs.Step.{answers, in_ndm, in_nrm, moved, other_refusal, responds, step_bytes, step_of, step_refusal};
 
 use crate::{Mode, Slave};
-use frame::{Meaning, number, refusal};
-use side::answer::{Change, Line, News};
-use side::rule::Heard;
+use frame::{Line, Meaning, Refusal, refusal};
+use side::answer::{Change, News};
+use side::rule::Accepted;
 use side::{Side, rule, slot};
 
-#[derive(Clone, Copy)]
-pub enum StepAnswer {
-    Responds(Line, News),
-    Refused(u8),
-}
-
-#[derive(Clone, Copy)]
-pub struct SlaveStep {
-    pub answer: StepAnswer,
-    pub slave: Slave,
-}
-
-// What an order that is not refused does.
+// What an order that is not refused does: a value, like `side::rule::Hearing` and for its reason.
 #[derive(Clone, Copy)]
 pub struct Moved {
     pub line: Line,
@@ -30,124 +20,100 @@ pub struct Moved {
 
 impl Slave {
     // Answers an order, with the response's information in the lent buffer: 30, 11, 9, 10, 12, 19.
+    #[tactic(auto, using(crate::proofs::Keeps::step_fits, side::proofs::Parts::laid_fits), unfolding(crate::specs::Step::step_of))]
     pub fn step(
-        self,
+        &mut self,
         address: u8,
         meaning: Meaning,
         information: &[u8],
         out: &mut [u8],
-    ) -> SlaveStep
-        ensures answer { step_given result ≡ step_of self address meaning information.now (length out.old) }
-        ensures bytes { out.new ≡ step_bytes self address meaning information.now out.old }
+    ) -> Result<(Line, News), Refusal>
+        ensures answer { given result self.new ≡ step_of self.old address meaning information.now (length out.old) }
+        ensures bytes { out.new ≡ step_bytes self.old address meaning information.now out.old }
     {
-        let room = out.len();
-        let refusal = self.step_refusal(address, meaning, information, room);
-        if refusal != 0 {
-            return SlaveStep {
-                answer: StepAnswer::Refused(refusal),
-                slave: self,
-            };
-        }
+        self.step_refusal(address, meaning, information, out.len())?;
         let moved = self.moved(meaning, information);
-        let line = moved.line;
-        let news = moved.news;
-        let slave = moved.slave;
-        let side = self.side;
-        let held = side.held;
-        let size = line.size;
-        slot::lay(held, size, out);
-        SlaveStep {
-            answer: StepAnswer::Responds(line, news),
-            slave,
-        }
+        slot::lay(&self.side.held, moved.line.size, out);
+        *self = moved.slave;
+        Ok((moved.line, moved.news))
     }
 
-    fn step_refusal(self, address: u8, meaning: Meaning, information: &[u8], room: usize) -> u8
-        ensures { result ≡ step_refusal self address meaning information.now room }
+    #[tactic(auto, unfolding(crate::specs::Step::step_refusal))]
+    fn step_refusal(
+        &self,
+        address: u8,
+        meaning: Meaning,
+        information: &[u8],
+        room: usize,
+    ) -> Result<(), Refusal>
+        ensures { refusal_in result ≡ step_refusal self.now address meaning information.now room }
     {
-        let wrong = self.wrong();
-        if wrong != 0 {
-            return wrong;
-        }
-        let refusal = slot::room_refusal(room);
-        if refusal != 0 {
-            return refusal;
-        }
-        let refusal = refusal::frame_refusal(meaning, information);
-        if refusal != 0 {
-            return refusal;
-        }
-        let own = self.address;
-        other_refusal(own, address)
+        self.wrong()?;
+        slot::room_refusal(room)?;
+        refusal::frame_refusal(meaning, information)?;
+        other_refusal(self.address, address)
     }
 
+    #[tactic(auto, unfolding(crate::specs::Step::moved))]
     fn moved(self, meaning: Meaning, information: &[u8]) -> Moved
         ensures { result ≡ moved self meaning information.now }
     {
-        let mode = self.mode;
-        match mode {
+        match self.mode {
             Mode::Ndm => self.in_ndm(meaning),
             Mode::Nrm => self.in_nrm(meaning, information),
         }
     }
 
     // Table 3's row NDM: only DISC and SNRM are answered by UA.
+    #[tactic(auto, unfolding(crate::specs::Step::in_ndm))]
     fn in_ndm(self, meaning: Meaning) -> Moved
         ensures { result ≡ in_ndm self meaning }
     {
         match meaning {
-            Meaning::I(_, _) => self.rejects(Change::Same),
-            Meaning::Rr(_) => self.rejects(Change::Same),
-            Meaning::Rnr(_) => self.rejects(Change::Same),
-            Meaning::Snrm => self.accepts(),
-            Meaning::Disc => self.disconnects(),
-            Meaning::Ua => self.rejects(Change::Same),
-            Meaning::Frmr => self.rejects(Change::Same),
+            Meaning::Snrm => self.answers(
+                self.side.synchronised(),
+                Mode::Nrm,
+                Meaning::Ua,
+                Change::Gained,
+            ),
+            Meaning::Disc => self.answers(self.side, Mode::Ndm, Meaning::Ua, Change::Same),
+            _ => self.rejects(Change::Same),
         }
     }
 
     // Table 3's row NRM: the count rule, and FRMR for all that it does not take.
+    #[tactic(auto, unfolding(crate::specs::Step::in_nrm))]
     fn in_nrm(self, meaning: Meaning, information: &[u8]) -> Moved
         ensures { result ≡ in_nrm self meaning information.now }
     {
-        let side = self.side;
-        let hearing = side.hear(meaning, information);
-        let heard = hearing.heard;
-        match heard {
-            Heard::Irrecoverable => self.rejects(Change::Lost),
-            Heard::Accepted(confirmed, handed) => {
-                let after = hearing.side;
-                self.responds(meaning, after, confirmed, handed)
-            }
+        let hearing = self.side.hear(meaning, information);
+        match hearing.heard {
+            None => self.rejects(Change::Lost),
+            Some(accepted) => self.responds(meaning, hearing.side, accepted),
         }
     }
 
     // I if a message is held and the order was not RNR, else RNR or RR: judged after the order.
-    fn responds(self, meaning: Meaning, side: Side, confirmed: usize, handed: usize) -> Moved
-        ensures { result ≡ responds self meaning side confirmed handed }
+    #[tactic(auto, unfolding(crate::specs::Step::responds))]
+    fn responds(self, meaning: Meaning, side: Side, accepted: Accepted) -> Moved
+        ensures { result ≡ responds self meaning side accepted.confirmed accepted.handed }
     {
-        let rnr = rule::is_rnr(meaning);
-        let may = !rnr;
-        let saying = side.say(may);
-        let said = saying.meaning;
-        let size = saying.size;
-        let after = saying.side;
-        let address = self.address;
+        let saying = side.say(!rule::is_rnr(meaning));
         Moved {
             line: Line {
-                address,
-                meaning: said,
-                size,
+                address: self.address,
+                meaning: saying.meaning,
+                size: saying.size,
             },
             news: News {
-                confirmed,
-                handed,
+                confirmed: accepted.confirmed,
+                handed: accepted.handed,
                 link: Change::Same,
             },
             slave: Slave {
-                side: after,
+                side: saying.side,
                 mode: Mode::Nrm,
-                address,
+                address: self.address,
             },
         }
     }
@@ -156,32 +122,15 @@ impl Slave {
     fn rejects(self, link: Change) -> Moved
         ensures { result ≡ answers self self.side Mode.Ndm Meaning.Frmr link }
     {
-        let side = self.side;
-        self.answers(side, Mode::Ndm, Meaning::Frmr, link)
-    }
-
-    fn disconnects(self) -> Moved
-        ensures { result ≡ in_ndm self Meaning.Disc }
-    {
-        let side = self.side;
-        self.answers(side, Mode::Ndm, Meaning::Ua, Change::Same)
-    }
-
-    fn accepts(self) -> Moved
-        ensures { result ≡ in_ndm self Meaning.Snrm }
-    {
-        let side = self.side;
-        let after = side.synchronised();
-        self.answers(after, Mode::Nrm, Meaning::Ua, Change::Gained)
+        self.answers(self.side, Mode::Ndm, Meaning::Frmr, link)
     }
 
     fn answers(self, side: Side, mode: Mode, meaning: Meaning, link: Change) -> Moved
         ensures { result ≡ answers self side mode meaning link }
     {
-        let address = self.address;
         Moved {
             line: Line {
-                address,
+                address: self.address,
                 meaning,
                 size: 0,
             },
@@ -193,17 +142,17 @@ impl Slave {
             slave: Slave {
                 side,
                 mode,
-                address,
+                address: self.address,
             },
         }
     }
 }
 
-fn other_refusal(own: u8, address: u8) -> u8
-    ensures { result ≡ other_refusal own address }
+fn other_refusal(own: u8, address: u8) -> Result<(), Refusal>
+    ensures { refusal_in result ≡ other_refusal own address }
 {
-    if address == own {
-        return 0;
+    if address != own {
+        return Err(Refusal::OtherAddress);
     }
-    number::OTHER_ADDRESS
+    Ok(())
 }

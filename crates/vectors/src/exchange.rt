@@ -1,318 +1,173 @@
 // A scripted exchange between a master and a slave: synchronising, a message each way, a lost response, a late one, a restart.
-use crate::print;
+use crate::print::{Hex, Kind, say};
+use frame::{Line, Refusal};
 use master::Master;
-use master::order::OrderAnswer;
-use master::response::ResponseAnswer;
-use side::answer::{Change, Line, News, Outcome, TakeAnswer};
+use side::answer::{Change, News};
 use slave::Slave;
-use slave::step::StepAnswer;
 use std::io::Stdout;
 
-#[derive(Clone, Copy)]
-pub struct Pair {
-    pub master: Master,
-    pub slave: Slave,
+// Both ends of a link, and where it is printed what they do.
+#[derive(Drop)]
+struct Link {
+    to: Stdout,
+    master: Master,
+    slave: Slave,
 }
 
-// What becomes of an order and of its response.
+// What becomes of an order and of its response, which arrives at an age in ticks.
 #[derive(Clone, Copy)]
-pub enum Fate {
-    Whole,
+enum Fate {
+    Answered(u32),
     OrderLost,
     ResponseLost,
-    Late,
 }
+
+// The answer limit: 99 ticks later is in time, 100 later is late.
+const LIMIT: u32 = 100;
+
+const WHOLE: Fate = Fate::Answered(LIMIT - 1);
+
+const LATE: Fate = Fate::Answered(LIMIT);
 
 pub fn show(to: Stdout) {
-    print::text(to, b"exchange\n");
-    let made = Master::make(5, 100);
-    let born = Slave::make(5);
-    let master = made.master;
-    let slave = born.slave;
-    let fresh = Pair { master, slave };
-    let connecting = exchange(to, fresh, 0, Fate::Whole);
-    let linked = exchange(to, connecting, 200, Fate::Whole);
-    let down = master_puts(to, linked, &[7, 0, 5, 0x31, 1]);
-    let both = slave_puts(to, down, &[8, 0x80, 5, 0x13, 2, 9]);
-    let handed = exchange(to, both, 400, Fate::ResponseLost);
-    let taken = slave_takes(to, handed);
-    let late = exchange(to, taken, 600, Fate::Late);
-    let lost = exchange(to, late, 800, Fate::OrderLost);
-    let confirmed = exchange(to, lost, 1000, Fate::Whole);
-    let idle = exchange(to, confirmed, 1200, Fate::Whole);
-    let empty = master_takes(to, idle);
-    let cut = slave_restarts(to, empty);
-    let apart = exchange(to, cut, 1400, Fate::Whole);
-    let again = exchange(to, apart, 1600, Fate::Whole);
-    let whole = exchange(to, again, 1800, Fate::Whole);
-    exchange(to, whole, 2000, Fate::Whole);
+    say!(to; "exchange\n");
+    let (Ok(master), Ok(slave)) = (Master::make(5, LIMIT), Slave::make(5)) else {
+        return;
+    };
+    let mut link = Link { to, master, slave };
+    link.exchange(0, WHOLE);
+    link.exchange(200, WHOLE);
+    let done = link.master.put(&[7, 0, 5, 0x31, 1]);
+    link.done("master puts", done);
+    let done = link.slave.put(&[8, 0x80, 5, 0x13, 2, 9]);
+    link.done("slave puts", done);
+    link.exchange(400, Fate::ResponseLost);
+    let mut message = [0; 253];
+    let taken = link.slave.take(&mut message);
+    link.taken("slave takes", taken, &message);
+    link.exchange(600, LATE);
+    link.exchange(800, Fate::OrderLost);
+    link.exchange(1000, WHOLE);
+    link.exchange(1200, WHOLE);
+    let taken = link.master.take(&mut message);
+    link.taken("master takes", taken, &message);
+    let done = link.slave.restart();
+    link.done("slave restarts", done);
+    for tick in [1400, 1600, 1800, 2000] {
+        link.exchange(tick, WHOLE);
+    }
 }
 
-// One exchange: the order, the slave's step, the master's response or silence.
-fn exchange(to: Stdout, pair: Pair, tick: u32, fate: Fate) -> Pair {
-    let mut down = [0u8; 253];
-    let master = pair.master;
-    let slave = pair.slave;
-    let ordered = master.order(tick, &mut down);
-    let answer = ordered.answer;
-    let waiting = ordered.master;
-    let after = Pair {
-        master: waiting,
-        slave,
-    };
-    match answer {
-        OrderAnswer::Orders(line) => {
-            print::text(to, b"> ");
-            sent(to, line, &down);
-            arrives(to, after, tick, fate, line, &down)
-        }
-        OrderAnswer::Refused(n) => {
-            refused(to, n);
-            after
+impl Link {
+    // One exchange: the order, the slave's step, the master's response or silence.
+    fn exchange(&mut self, tick: u32, fate: Fate) {
+        let mut down = [0; 253];
+        match self.master.order(tick, &mut down) {
+            Ok(line) => {
+                say!(self.to; "> ");
+                self.sent(line, &down);
+                self.arrives(tick, fate, line, &down);
+            }
+            Err(refusal) => self.refused(refusal),
         }
     }
-}
 
-fn arrives(to: Stdout, pair: Pair, tick: u32, fate: Fate, line: Line, down: &[u8]) -> Pair {
-    match fate {
-        Fate::Whole => answered(to, pair, tick, true, line, down),
-        Fate::OrderLost => silent(to, pair),
-        Fate::ResponseLost => unheard(to, pair, line, down),
-        Fate::Late => answered(to, pair, tick, false, line, down),
+    fn arrives(&mut self, tick: u32, fate: Fate, order: Line, down: &[u8]) {
+        let mut up = [0; 253];
+        match fate {
+            Fate::OrderLost => self.silent(),
+            Fate::ResponseLost => {
+                let _ = self.steps(order, down, &mut up);
+                self.silent();
+            }
+            Fate::Answered(age) => {
+                if let Some(response) = self.steps(order, down, &mut up) {
+                    self.hears(tick.wrapping_add(age), response, &up);
+                }
+            }
+        }
+    }
+
+    // The slave's step: its response, unless it is refused.
+    fn steps(&mut self, order: Line, down: &[u8], up: &mut [u8]) -> Option<Line> {
+        match self
+            .slave
+            .step(order.address, order.meaning, part(down, order.size), up)
+        {
+            Ok((response, news)) => {
+                say!(self.to; "< ");
+                self.sent(response, up);
+                say!(self.to; "slave ");
+                self.told(news);
+                Some(response)
+            }
+            Err(refusal) => {
+                self.refused(refusal);
+                None
+            }
+        }
+    }
+
+    fn hears(&mut self, tick: u32, response: Line, up: &[u8]) {
+        let information = part(up, response.size);
+        let heard = self
+            .master
+            .response(response.address, response.meaning, information, tick);
+        say!(self.to; "master ");
+        match heard {
+            Ok(Some(news)) => self.told(news),
+            Ok(None) => {
+                say!(self.to; "silence\n");
+            }
+            Err(refusal) => self.refused(refusal),
+        }
+    }
+
+    fn silent(&mut self) {
+        let done = self.master.silence();
+        self.done(".", done);
+    }
+
+    fn sent(&self, line: Line, bytes: &[u8]) {
+        let information = Hex(part(bytes, line.size));
+        say!(self.to; "{} {} {} {}\n", line.address, Kind(line.meaning), line.size, information);
+    }
+
+    fn told(&self, news: News) {
+        let link = match news.link {
+            Change::Same => "",
+            Change::Gained => " gained",
+            Change::Lost => " lost",
+        };
+        say!(self.to; "confirmed {} handed {}{}\n", news.confirmed, news.handed, link);
+    }
+
+    fn done(&self, call: &str, done: Result<(), Refusal>) {
+        say!(self.to; "{call} ");
+        match done {
+            Ok(()) => {
+                say!(self.to; "done\n");
+            }
+            Err(refusal) => self.refused(refusal),
+        }
+    }
+
+    fn taken(&self, call: &str, taken: Result<usize, Refusal>, out: &[u8]) {
+        say!(self.to; "{call} ");
+        match taken {
+            Ok(size) => {
+                say!(self.to; "{}\n", Hex(part(out, size)));
+            }
+            Err(refusal) => self.refused(refusal),
+        }
+    }
+
+    fn refused(&self, refusal: Refusal) {
+        say!(self.to; "{refusal}\n");
     }
 }
 
-// What the slave's step answered, and the pair after it.
-#[derive(Clone, Copy)]
-struct AfterStep {
-    answer: StepAnswer,
-    pair: Pair,
-}
-
-fn stepped(to: Stdout, pair: Pair, line: Line, down: &[u8], up: &mut [u8]) -> AfterStep {
-    let slave = pair.slave;
-    let master = pair.master;
-    let address = line.address;
-    let meaning = line.meaning;
-    let size = line.size;
-    let step = slave.step(address, meaning, part(down, size), up);
-    let answer = step.answer;
-    let after = step.slave;
-    step_shown(to, answer, up);
-    let pair = Pair {
-        master,
-        slave: after,
-    };
-    AfterStep { answer, pair }
-}
-
-// The step, whose response is lost.
-fn unheard(to: Stdout, pair: Pair, line: Line, down: &[u8]) -> Pair {
-    let mut up = [0u8; 253];
-    let step = stepped(to, pair, line, down, &mut up);
-    let after = step.pair;
-    silent(to, after)
-}
-
-// The step, and its response in time or too late.
-fn answered(to: Stdout, pair: Pair, tick: u32, in_time: bool, line: Line, down: &[u8]) -> Pair {
-    let mut up = [0u8; 253];
-    let step = stepped(to, pair, line, down, &mut up);
-    let answer = step.answer;
-    let after = step.pair;
-    match answer {
-        StepAnswer::Responds(response, _) => heard(
-            to,
-            after,
-            heard_at(tick, in_time),
-            response,
-            &up,
-        ),
-        StepAnswer::Refused(_) => after,
-    }
-}
-
-// The limit is 100 ticks: 99 later is in time, 100 later is late.
-fn heard_at(tick: u32, in_time: bool) -> u32 {
-    if in_time {
-        return tick.wrapping_add(99);
-    }
-    tick.wrapping_add(100)
-}
-
-fn heard(to: Stdout, pair: Pair, tick: u32, line: Line, up: &[u8]) -> Pair {
-    let master = pair.master;
-    let slave = pair.slave;
-    let address = line.address;
-    let meaning = line.meaning;
-    let size = line.size;
-    let heard = master.response(address, meaning, part(up, size), tick);
-    let answer = heard.answer;
-    let after = heard.master;
-    print::text(to, b"master ");
-    match answer {
-        ResponseAnswer::Heard(news) => told(to, news),
-        ResponseAnswer::Silence => print::text(to, b"silence\n"),
-        ResponseAnswer::Refused(n) => refused(to, n),
-    }
-    Pair {
-        master: after,
-        slave,
-    }
-}
-
-fn silent(to: Stdout, pair: Pair) -> Pair {
-    let master = pair.master;
-    let slave = pair.slave;
-    let silence = master.silence();
-    let answer = silence.answer;
-    let after = silence.master;
-    print::text(to, b". ");
-    done(to, answer);
-    Pair {
-        master: after,
-        slave,
-    }
-}
-
+// The first bytes of a buffer, or all that it has.
 fn part(bytes: &[u8], size: usize) -> &[u8] {
-    if bytes.len() < size {
-        return bytes;
-    }
-    &bytes[0..size]
-}
-
-fn step_shown(to: Stdout, answer: StepAnswer, up: &[u8]) {
-    match answer {
-        StepAnswer::Responds(line, news) => {
-            print::text(to, b"< ");
-            sent(to, line, up);
-            print::text(to, b"slave ");
-            told(to, news);
-        }
-        StepAnswer::Refused(n) => refused(to, n),
-    }
-}
-
-fn sent(to: Stdout, line: Line, bytes: &[u8]) {
-    let address = line.address;
-    let meaning = line.meaning;
-    let size = line.size;
-    print::small(to, address);
-    print::text(to, b" ");
-    print::meaning(to, meaning);
-    print::text(to, b" ");
-    print::size(to, size);
-    print::text(to, b" ");
-    print::bytes(to, part(bytes, size));
-    print::text(to, b"\n");
-}
-
-fn told(to: Stdout, news: News) {
-    let confirmed = news.confirmed;
-    let handed = news.handed;
-    let link = news.link;
-    print::text(to, b"confirmed ");
-    print::size(to, confirmed);
-    print::text(to, b" handed ");
-    print::size(to, handed);
-    match link {
-        Change::Same => print::text(to, b"\n"),
-        Change::Gained => print::text(to, b" gained\n"),
-        Change::Lost => print::text(to, b" lost\n"),
-    }
-}
-
-fn done(to: Stdout, answer: Outcome) {
-    match answer {
-        Outcome::Done => print::text(to, b"done\n"),
-        Outcome::Refused(n) => refused(to, n),
-    }
-}
-
-fn refused(to: Stdout, n: u8) {
-    print::refused(to, n);
-    print::text(to, b"\n");
-}
-
-fn master_puts(to: Stdout, pair: Pair, message: &[u8]) -> Pair {
-    let master = pair.master;
-    let slave = pair.slave;
-    let put = master.put(message);
-    let answer = put.answer;
-    let after = put.master;
-    print::text(to, b"master puts ");
-    done(to, answer);
-    Pair {
-        master: after,
-        slave,
-    }
-}
-
-fn slave_puts(to: Stdout, pair: Pair, message: &[u8]) -> Pair {
-    let master = pair.master;
-    let slave = pair.slave;
-    let put = slave.put(message);
-    let answer = put.answer;
-    let after = put.slave;
-    print::text(to, b"slave puts ");
-    done(to, answer);
-    Pair {
-        master,
-        slave: after,
-    }
-}
-
-fn master_takes(to: Stdout, pair: Pair) -> Pair {
-    let mut out = [0u8; 253];
-    let master = pair.master;
-    let slave = pair.slave;
-    let take = master.take(&mut out);
-    let answer = take.answer;
-    let after = take.master;
-    print::text(to, b"master takes ");
-    took(to, answer, &out);
-    Pair {
-        master: after,
-        slave,
-    }
-}
-
-fn slave_takes(to: Stdout, pair: Pair) -> Pair {
-    let mut out = [0u8; 253];
-    let master = pair.master;
-    let slave = pair.slave;
-    let take = slave.take(&mut out);
-    let answer = take.answer;
-    let after = take.slave;
-    print::text(to, b"slave takes ");
-    took(to, answer, &out);
-    Pair {
-        master,
-        slave: after,
-    }
-}
-
-fn took(to: Stdout, answer: TakeAnswer, out: &[u8]) {
-    match answer {
-        TakeAnswer::Taken(size) => {
-            print::bytes(to, part(out, size));
-            print::text(to, b"\n");
-        }
-        TakeAnswer::Refused(n) => refused(to, n),
-    }
-}
-
-fn slave_restarts(to: Stdout, pair: Pair) -> Pair {
-    let master = pair.master;
-    let slave = pair.slave;
-    let restart = slave.restart();
-    let answer = restart.answer;
-    let after = restart.slave;
-    print::text(to, b"slave restarts ");
-    done(to, answer);
-    Pair {
-        master,
-        slave: after,
-    }
+    bytes.get(..size).unwrap_or(bytes)
 }

@@ -1,67 +1,43 @@
-// Printing: words, numbers, bytes in hex and the meanings of frames.
+// What is printed: words, bytes in hex, and the meanings of frames.
 use frame::Meaning;
-use std::io::{Print, Stdout};
+use std::fmt;
 
-// What cannot be printed is left out.
-pub fn text(to: Stdout, words: &[u8]) {
-    let _ = Print::write_all(&to, words);
+// Prints by a format; what cannot be printed is left out.
+macro_rules! say {
+    ($to:expr; $($words:tt)*) => {
+        let _ = print!($to; $($words)*);
+    };
 }
 
-pub fn number(to: Stdout, n: u64) {
-    let _ = print!(to; "{n}");
-}
+pub(crate) use say;
 
-pub fn size(to: Stdout, n: usize) {
-    number(to, n as u64);
-}
+// Bytes, two hex digits each.
+#[derive(Clone, Copy)]
+pub struct Hex<'a>(pub &'a [u8]);
 
-pub fn small(to: Stdout, n: u8) {
-    number(to, n as u64);
-}
-
-pub fn hex(to: Stdout, n: u64, width: usize) {
-    let _ = print!(to; "{n:0width$x}");
-}
-
-pub fn bytes(to: Stdout, s: &[u8]) {
-    for x in s {
-        hex(to, wide(*x), 2);
+impl fmt::Display for Hex<'_> {
+    fn fmt<W: fmt::Write>(&self, f: &mut fmt::Formatter<W>) -> fmt::Result {
+        for byte in self.0 {
+            write!(f, "{byte:02x}")?;
+        }
+        Ok(())
     }
-}
-
-fn wide(x: u8) -> u64 {
-    x as u64
 }
 
 // A kind with Ns and Nr, `-` where it carries none.
-pub fn meaning(to: Stdout, m: Meaning) {
-    match m {
-        Meaning::I(ns, nr) => {
-            let s = ns.0;
-            let r = nr.0;
-            text(to, b"I ");
-            small(to, s);
-            text(to, b" ");
-            small(to, r);
-        }
-        Meaning::Rr(nr) => {
-            let r = nr.0;
-            text(to, b"RR - ");
-            small(to, r);
-        }
-        Meaning::Rnr(nr) => {
-            let r = nr.0;
-            text(to, b"RNR - ");
-            small(to, r);
-        }
-        Meaning::Snrm => text(to, b"SNRM - -"),
-        Meaning::Disc => text(to, b"DISC - -"),
-        Meaning::Ua => text(to, b"UA - -"),
-        Meaning::Frmr => text(to, b"FRMR - -"),
-    }
-}
+#[derive(Clone, Copy)]
+pub struct Kind(pub Meaning);
 
-pub fn refused(to: Stdout, n: u8) {
-    text(to, b"refused ");
-    small(to, n);
+impl fmt::Display for Kind {
+    fn fmt<W: fmt::Write>(&self, f: &mut fmt::Formatter<W>) -> fmt::Result {
+        match self.0 {
+            Meaning::I(ns, nr) => write!(f, "I {} {}", ns.0, nr.0),
+            Meaning::Rr(nr) => write!(f, "RR - {}", nr.0),
+            Meaning::Rnr(nr) => write!(f, "RNR - {}", nr.0),
+            Meaning::Snrm => f.write_str("SNRM - -"),
+            Meaning::Disc => f.write_str("DISC - -"),
+            Meaning::Ua => f.write_str("UA - -"),
+            Meaning::Frmr => f.write_str("FRMR - -"),
+        }
+    }
 }

@@ -1,61 +1,47 @@
--- What the writer answers: which frames it takes, and what is then known of them.
+-- What the writer answers: the control byte of the frame, and the report of one that no test refuses.
 -- Assumes nothing.
-use Prim.Native.Nat.{ℕ}
-use mathlib.Core.Path.{◌≡◌, ◌∙◌}
+use Prim.Native.Nat.{ℕ, ◌+◌, ◌-◌, ◌*◌, ◌≤◌}
+use mathlib.Core.Path.{◌≡◌, ◌∙◌, ap}
 use mathlib.Core.List.{List}
 use native.Mathlib.Omega.{arith}
-use lib.Dec.{eqb}
 use lib.ListN.{length}
-use borrow.Author.Tests.{eqb-false, ne_eqb}
-use Rattle.frame.specs.Pick.{◌then◌}
-use Rattle.frame.specs.Answer.{Answer, gives, refuses, unless}
+use Rattle.frame.specs.Answer.{gives}
 use Rattle.frame.specs.Control.{byte_of, counts_refusal, encode_of}
 use Rattle.frame.specs.Refusal.{address_refusal, information_refusal, frame_refusal}
 use Rattle.frame.specs.declared.Meaning.{Meaning}
-use Rattle.frame.proofs.Laws.{pick_cases, unless_gives}
-use Rattle.writer.specs.Write.{content_bytes, room_refusal, answered, left, write_refusal, write_of, write_bytes}
-
--- ---- the control byte, or 9
-
-unless_refuses : {A : Type 0} (n : ℕ) (v : A) (k : ℕ) → unless n v ≡ refuses k → (n ≡ k) × (k ≡ 0 → ⊥)
-unless_refuses {A} n v k =
-    pick_cases (λ (x : Answer A). x ≡ refuses k → (n ≡ k) × (k ≡ 0 → ⊥)) (eqb n 0) (gives v) (refuses n) (λ t e. given e)
-    (λ t e. let same : n ≡ k = cc in (same, λ z. eqb-false n 0 t (same ∙ z)))
-  where
-    given : gives v ≡ refuses k → (n ≡ k) × (k ≡ 0 → ⊥)
-    given e = let z : ◌≡◌ {A = ℕ} 0 1 = cc in absurd (omega arith)
+use Rattle.frame.proofs.Laws.{unless_gives}
+use Rattle.bits.specs.Bits.{bits_of}
+use Rattle.bits.specs.Insert.{zeros}
+use Rattle.bits.proofs.BitLaws.{length_bits_of}
+use Rattle.bits.proofs.Insertion.{length-insert}
+use Rattle.writer.specs.Write.{Report, report, content_bytes, line, room_refusal, write_refusal, write_of}
+use Rattle.writer.proofs.Lining.{length-line, length_content}
 
 pub encode_gives : (m : Meaning) (b : ℕ) → encode_of m ≡ gives b → (counts_refusal m ≡ 0) × (byte_of m ≡ b)
 unfolding encode_of
 encode_gives m b e = unless_gives (counts_refusal m) (byte_of m) b e
 
-pub encode_refuses : (m : Meaning) (n : ℕ) → encode_of m ≡ refuses n → (counts_refusal m ≡ n) × (n ≡ 0 → ⊥)
-unfolding encode_of
-encode_refuses m n e = unless_refuses (counts_refusal m) (byte_of m) n e
+module _ (address control : ℕ) (info : List ℕ) where
+  -- what was laid: both flags, eight bits a byte, and the zeros
+  pub counted : let content = content_bytes address control info in
+      length (line content) ≡ 8 * (length info + 6) + zeros 0 (bits_of content)
+  counted =
+      let content = content_bytes address control info in
+      omega (arith, length-line content, length-insert 0 (bits_of content), length_bits_of content, length_content address control info)
 
--- ---- the writer's tests in their order
+  -- bits laid for a content that lies in its pieces
+  module _ {whole : List ℕ} (same : whole ≡ content_bytes address control info) {bits : ℕ} (laid : bits ≡ length (line whole)) where
+    pub enough : 8 * (length info + 6) ≤ bits
+    enough = omega (arith, counted, laid, ap (λ (l : List ℕ). length (line l)) same)
 
-module _ (address : ℕ) (m : Meaning) (info old : List ℕ) where
-  refused : (n : ℕ) → (n ≡ 0 → ⊥) → write_refusal address m info (length old) ≡ n
-      → (refuses n ≡ write_of address m info (length old)) × (old ≡ write_bytes address m info old)
-  unfolding write_of write_bytes
-  refused n h e = let f = ne_eqb n 0 h in (rw (e, f), rw (e, f))
+    pub reported : (n : ℕ) → n ≡ bits - 8 * (length info + 6) → ◌≡◌ {A = Report} (record { bits = bits; zeros = n }) (report (content_bytes address control info))
+    reported n e =
+        let b = laid ∙ ap (λ (l : List ℕ). length (line l)) same in
+        let z : n ≡ zeros 0 (bits_of (content_bytes address control info)) = omega (arith, e, b, counted) in
+        λ i. record { bits = b i; zeros = z i }
 
-  pub by_address : (n : ℕ) → (n ≡ 0 → ⊥) → address_refusal address ≡ n
-      → (refuses n ≡ write_of address m info (length old)) × (old ≡ write_bytes address m info old)
-  unfolding write_refusal
-  by_address n h e = refused n h (rw (e, ne_eqb n 0 h))
-
-  module _ (passed : address_refusal address ≡ 0) where
-    pub by_counts : (n : ℕ) → (n ≡ 0 → ⊥) → counts_refusal m ≡ n
-        → (refuses n ≡ write_of address m info (length old)) × (old ≡ write_bytes address m info old)
-    unfolding write_refusal frame_refusal
-    by_counts n h e = refused n h (rw (passed, e) (simp (ne_eqb n 0 h)))
-
-    -- 8 and 9 are passed, and the rest is left to test
-    pub went_on : (b : ℕ) → (counts_refusal m ≡ 0) × (byte_of m ≡ b)
-        → let content = content_bytes address b info in
-        let refusal = information_refusal m info then room_refusal content (length old) in
-        (answered refusal content ≡ write_of address m info (length old)) × (left refusal content old ≡ write_bytes address m info old)
-    unfolding write_of write_bytes write_refusal frame_refusal
-    went_on b h = (rw (passed, h.0, h.1), rw (passed, h.0, h.1))
+  -- a frame that no test refuses
+  pub written : (m : Meaning) (room : ℕ) → address_refusal address ≡ 0 → encode_of m ≡ gives control → information_refusal m info ≡ 0
+      → room_refusal (content_bytes address control info) room ≡ 0 → write_of address m info room ≡ gives (report (content_bytes address control info))
+  unfolding write_of write_refusal frame_refusal
+  written m room a e i r = let k = encode_gives m control e in rw (a, k.0, k.1, i, r)

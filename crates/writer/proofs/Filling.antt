@@ -13,7 +13,7 @@ use lib.Pow.{pow-add, shr_lt}
 use lib.Seq.{take-suc-set, drop-set-lt, drop-drop}
 use Rattle.bits.specs.Bits.{low, bits_of}
 use Rattle.bits.proofs.BitLaws.{low_join, bits_of_append}
-use Rattle.writer.specs.Sink.{sofar, placed, Sound, Added}
+use Rattle.writer.specs.Sink.{sofar, placed, Added}
 use Rattle.writer.specs.declared.packed.Sink.{Sink}
 
 -- what is the same from a place on is the same from a later one on
@@ -30,7 +30,7 @@ pub record Filling (old : List ℕ) (all : List Bool) (total : ℕ) (out : List 
   pub count : 8 * place + left ≡ total
   pub small : rest < 2 ^ left
 
-module _ (old : List ℕ) (s : Sink) (bits count : ℕ) (sound : Sound s) (fits : bits < 2 ^ count) where
+module _ (old : List ℕ) (s : Sink) (bits count : ℕ) (fits : bits < 2 ^ count) where
   pub filling : (above : ℕ) → above ≡ bits * 2 ^ s.waits
       → Filling old (sofar old s ++ low count bits) (placed s + count) old (s.acc + above) (s.waits + count) s.at
   unfolding sofar
@@ -38,13 +38,13 @@ module _ (old : List ℕ) (s : Sink) (bits count : ℕ) (sound : Sound s) (fits 
       record {
         bits =
             ap (λ (n : ℕ). bits_of (take s.at old) ++ low (s.waits + count) n) (add_comm s.acc above ∙ ap (λ (n : ℕ). n + s.acc) e)
-            ∙ ap (λ (l : List Bool). bits_of (take s.at old) ++ l) (low_join s.waits s.acc count bits sound.small)
+            ∙ ap (λ (l : List Bool). bits_of (take s.at old) ++ l) (low_join s.waits s.acc count bits s.small)
             ∙ sym (append_assoc (bits_of (take s.at old)) (low s.waits s.acc) (low count bits));
         same = refl;
         long = refl;
         count = omega arith;
         small = subst (λ (n : ℕ). s.acc + above < n) (sym (pow-add 2 count s.waits) ∙ ap (λ (n : ℕ). 2 ^ n) (add_comm count s.waits))
-            (let d : bits * 2 ^ s.waits + s.acc < 2 ^ count * 2 ^ s.waits = digits_lt fits sound.small in omega arith);
+            (let d : bits * 2 ^ s.waits + s.acc < 2 ^ count * 2 ^ s.waits = digits_lt fits s.small in omega arith);
       }
 
 pub one_byte : (x : ℕ) → bits_of (x ∷ []) ≡ low 8 x
@@ -74,22 +74,19 @@ turn {old} {all} {total} {out} {rest} {left} {place} f h r =
     }
 
 -- no whole byte is left
-pub filled : {old : List ℕ} {s : Sink} {more : List Bool} {out : List ℕ} {rest left place : ℕ}
-    → Filling old (sofar old s ++ more) (placed s + length more) out rest left place → left < 8
-    → Added old s more out (record { at = place; acc = rest; waits = left })
+pub filled : {old : List ℕ} {s s' : Sink} {more : List Bool} {out : List ℕ}
+    → Filling old (sofar old s ++ more) (placed s + length more) out s'.acc s'.waits s'.at → Added old s more out s'
 unfolding sofar
-filled f h =
-    record { bits = f.bits; rest = f.same; long = f.long; place = f.count; sound = record { few = h; small = f.small } }
+filled f = record { bits = f.bits; rest = f.same; long = f.long; place = f.count }
 
 -- what one piece added, the next adds to
 pub added_on : {out out' out'' : List ℕ} {s s' s'' : Sink} {x y : List Bool}
     → Added out s x out' s' → Added out' s' y out'' s'' → Added out s (x ++ y) out'' s''
 added_on {out} {out'} {out''} {s} {s'} {s''} {x} {y} a b =
-    let p = a.place in let q = b.place in let few = b.sound.few in let few' = a.sound.few in
+    let p = a.place in let q = b.place in let few = s''.few in let few' = s'.few in
     record {
       bits = b.bits ∙ ap (λ (l : List Bool). l ++ y) a.bits ∙ append_assoc (sofar out s) x y;
       rest = b.rest ∙ drop_further s'.at s''.at out' out (omega arith) a.rest;
       long = b.long ∙ a.long;
       place = omega (arith, length-append x y);
-      sound = b.sound;
     }

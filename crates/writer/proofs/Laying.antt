@@ -11,13 +11,13 @@ use lib.Seq.{split_at, take-suc}
 use Rattle.bits.specs.Bits.{low, bits_of}
 use Rattle.bits.specs.Insert.{insert, trail}
 use Rattle.bits.proofs.BitLaws.{bits_of_append, length_bits_of}
-use Rattle.bits.proofs.Insertion.{insert-append, trail-append, trail_small, length-insert, zeros_few}
-use Rattle.writer.specs.Sink.{sofar, Sound, Added}
+use Rattle.bits.proofs.Insertion.{insert-append, trail-append, length-insert, zeros_few}
+use Rattle.writer.specs.Sink.{sofar, Added}
 use Rattle.writer.specs.Stuff.{Inserted, Tallied, Ready, Laying}
 use Rattle.writer.specs.declared.packed.Sink.{Sink}
 use Rattle.writer.specs.declared.stuff.Stuffed.{Stuffed}
-use Rattle.writer.specs.declared.Counted.{Counted}
-use Rattle.writer.specs.declared.Laid.{Laid}
+use Rattle.writer.specs.declared.pieces.Counted.{Counted}
+use Rattle.writer.specs.declared.pieces.Laid.{Laid}
 use Rattle.writer.proofs.Filling.{one_byte, added_on}
 use Rattle.writer.proofs.Stuffing.{stuffed_low}
 
@@ -58,14 +58,11 @@ pub tallied_on : {t u v : Counted} {x y : List Bool} → Tallied t x u → Talli
 tallied_on {t} {u} {v} {x} {y} f g =
     record {
       bits =
-          let a = f.bits in let b = g.bits in let c = length-insert-append t.run x y in
-          let d : length (insert u.run y) ≡ length (insert (trail t.run x) y) = ap (λ (r : ℕ). length (insert r y)) f.run in
+          let a = f.bits in let b = g.bits in let c = length-insert-append t.run.ones x y in
+          let d : length (insert u.run.ones y) ≡ length (insert (trail t.run.ones x) y) = ap (λ (r : ℕ). length (insert r y)) f.run in
           omega arith;
-      run = g.run ∙ ap (λ (r : ℕ). trail r y) f.run ∙ sym (trail-append t.run x y);
+      run = g.run ∙ ap (λ (r : ℕ). trail r y) f.run ∙ sym (trail-append t.run.ones x y);
     }
-
-pub tallied_run : {t u : Counted} {x : List Bool} → t.run < 5 → Tallied t x u → u.run < 5
-tallied_run {t} {u} {x} h f = subst (λ (n : ℕ). n < 5) (sym f.run) (trail_small t.run x h)
 
 pub tallied_next : {t u v : Counted} (bytes : List ℕ) (i : ℕ) → i < length bytes
     → Tallied t (bits_of (take i bytes)) u → Tallied u (low 8 (get_or bytes i 0)) v → Tallied t (bits_of (take (i + 1) bytes)) v
@@ -75,17 +72,17 @@ pub tallied_three : {t u v w : Counted} (a b c : List ℕ)
     → Tallied t (bits_of a) u → Tallied u (bits_of b) v → Tallied v (bits_of c) w → Tallied t (bits_of (a ++ (b ++ c))) w
 tallied_three {t} {u} {v} {w} a b c f g h = subst (λ (x : List Bool). Tallied t x w) (sym (bits_three a b c)) (tallied_on f (tallied_on g h))
 
-pub tallied_byte : {t : Counted} {x : List Bool} {s : Stuffed} → Inserted t.run x s → Tallied t x (record { bits = t.bits + s.count; run = s.run })
+pub tallied_byte : {t : Counted} {x : List Bool} {s : Stuffed} → Inserted t.run.ones x s → Tallied t x (record { bits = t.bits + s.count; run = s.run })
 tallied_byte {t} f = record { bits = ap (λ (n : ℕ). t.bits + n) f.count; run = f.run }
 
 -- ---- laying
 
 module _ {out : List ℕ} {l : Laid} where
-  pub laying_none : Sound l.sink → Laying out l [] out l
+  pub laying_none : Laying out l [] out l
   unfolding insert trail
-  laying_none s =
+  laying_none =
       record {
-        added = record { bits = sym (append-nil (sofar out l.sink)); rest = refl; long = refl; place = omega arith; sound = s };
+        added = record { bits = sym (append-nil (sofar out l.sink)); rest = refl; long = refl; place = omega arith };
         run = refl;
       }
 
@@ -94,9 +91,9 @@ module _ {out : List ℕ} {l : Laid} where
   laying_on {out'} {out''} {m} {n} {x} {y} f g =
       record {
         added =
-            subst (λ (z : List Bool). Added out l.sink z out'' n.sink) (sym (insert-append l.run x y))
+            subst (λ (z : List Bool). Added out l.sink z out'' n.sink) (sym (insert-append l.run.ones x y))
             (added_on f.added (subst (λ (r : ℕ). Added out' m.sink (insert r y) out'' n.sink) f.run g.added));
-        run = g.run ∙ ap (λ (r : ℕ). trail r y) f.run ∙ sym (trail-append l.run x y);
+        run = g.run ∙ ap (λ (r : ℕ). trail r y) f.run ∙ sym (trail-append l.run.ones x y);
       }
 
   pub laying_next : {out' out'' : List ℕ} {m n : Laid} (bytes : List ℕ) (i : ℕ) → i < length bytes
@@ -111,23 +108,20 @@ module _ {out : List ℕ} {l : Laid} where
   pub ready_three : (a b c : List ℕ) → Ready out l (bits_of (a ++ (b ++ c))) → Ready out l (bits_of a ++ (bits_of b ++ bits_of c))
   ready_three a b c r = subst (λ (x : List Bool). Ready out l x) (bits_three a b c) r
 
-  pub laying_byte : {out' : List ℕ} {k : Sink} {x : List Bool} {s : Stuffed} → Inserted l.run x s
+  pub laying_byte : {out' : List ℕ} {k : Sink} {x : List Bool} {s : Stuffed} → Inserted l.run.ones x s
       → Added out l.sink (low s.count s.bits) out' k → Laying out l x out' (record { sink = k; run = s.run })
   laying_byte {out'} {k} {x} {s} f a =
       record { added = subst (λ (z : List Bool). Added out l.sink z out' k) (stuffed_low f) a; run = f.run }
 
   -- room for the whole is room for its first part, and for the second behind it
   pub ready_first : {x : List Bool} (y : List Bool) → Ready out l (x ++ y) → Ready out l x
-  ready_first {x} y r =
-      record { sound = r.sound; run = r.run; room = let e = length-insert-append l.run x y in let f = r.room in omega arith }
+  ready_first {x} y r = record { room = let e = length-insert-append l.run.ones x y in let f = r.room in omega arith }
 
   pub ready_second : {out' : List ℕ} {m : Laid} (x y : List Bool) → Ready out l (x ++ y) → Laying out l x out' m → Ready out' m y
   ready_second {out'} {m} x y r f =
       record {
-        sound = f.added.sound;
-        run = subst (λ (n : ℕ). n < 5) (sym f.run) (trail_small l.run x r.run);
         room =
-            let a = f.added.place in let b = f.added.long in let c = length-insert-append l.run x y in let e = r.room in
-            let d : length (insert m.run y) ≡ length (insert (trail l.run x) y) = ap (λ (n : ℕ). length (insert n y)) f.run in
+            let a = f.added.place in let b = f.added.long in let c = length-insert-append l.run.ones x y in let e = r.room in
+            let d : length (insert m.run.ones y) ≡ length (insert (trail l.run.ones x) y) = ap (λ (n : ℕ). length (insert n y)) f.run in
             omega arith;
       }

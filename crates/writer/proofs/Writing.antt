@@ -1,7 +1,7 @@
 -- The writer's answers: how large a frame can be, their numbers, and that the definition of their values loses nothing.
 -- Assumes nothing.
 use Prim.Native.Nat.{ℕ, ◌≤◌}
-use mathlib.Core.Path.{◌≡◌, refl, ap, ap₂, subst}
+use mathlib.Core.Path.{refl, subst}
 use mathlib.Core.List.Memᴰ.{head as here}
 use mathlib.Core.List.Memᴰ.{tail as there}
 use mathlib.Core.List.{List, [], ◌∷◌}
@@ -15,13 +15,13 @@ use Rattle.frame.specs.declared.Meaning.{Meaning}
 use Rattle.frame.proofs.Laws.{pick_among, then_zero, then_among, unless_gives, unless_lists}
 use Rattle.frame.proofs.Messages.{information_few}
 use Rattle.frame.proofs.Numbers.{numbers}
+use Rattle.frame.proofs.LosesNothing.{answer_one}
 use Rattle.bits.specs.Bits.{bits_of}
 use Rattle.bits.specs.Packed.{bytes_for}
 use Rattle.bits.proofs.BitLaws.{length_bits_of}
 use Rattle.bits.proofs.Insertion.{zeros-counted}
 use Rattle.writer.specs.Write.{Report, report, line, content_of, room_refusal, write_refusal, write_of}
 use Rattle.writer.specs.Promises.{Within, WriteWithin, WriteNumbers, WriteLosesNothing}
-use Rattle.writer.specs.declared.Written.TheVariants.{Line, Refused}
 use Rattle.writer.proofs.Lining.{length-line, length_content}
 
 within : (address : ℕ) (m : Meaning) (info : List ℕ) → length info ≤ 253 → Within info (report (content_of address m info))
@@ -52,9 +52,4 @@ write_numbers address m info room =
     (then_among (9 ∷ 10 ∷ 12 ∷ []) (11 ∷ []) (numbers.frame m info) (pick_among (ltb room (bytes_for (length (line content)))) (there (here refl)) (here refl))))
 
 pub write_loses_nothing : WriteLosesNothing
-write_loses_nothing (Line b z) (Line c y) e =
-    let same : ◌≡◌ {A = Report} (record { bits = b; zeros = z }) (record { bits = c; zeros = y }) = cc in
-    ap₂ Line (ap (λ (r : Report). r.bits) same) (ap (λ (r : Report). r.zeros) same)
-write_loses_nothing (Line b z) (Refused n) e = cc
-write_loses_nothing (Refused n) (Line c y) e = cc
-write_loses_nothing (Refused n) (Refused k) e = let same : n ≡ k = cc in ap Refused same
+write_loses_nothing a b e = answer_one a b e

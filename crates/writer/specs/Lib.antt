@@ -2,4 +2,5 @@
 pub mod Sink
 pub mod Stuff
 pub mod Write
+pub mod Content
 pub mod Promises

@@ -1,11 +1,11 @@
 -- What is promised of the writer beside its contract. The proofs stand in proofs/Writing and proofs/Lining.
-use Rattle.std.specs.Prelude.{ℕ, ◌+◌, ◌*◌, ◌/◌, ◌≤◌, ◌≡◌, Bool, List, [], ◌∷◌, length, take}
-use Rattle.frame.specs.Answer.{gives, Lists}
+use Rattle.std.specs.Prelude.{ℕ, ◌+◌, ◌*◌, ◌/◌, ◌≤◌, ◌≡◌, Bool, Result, List, [], ◌∷◌, length, take}
+use Rattle.frame.specs.Answer.{answer, gives, Lists}
+use Rattle.frame.specs.declared.number.Refusal.{Refusal}
 use Rattle.frame.specs.declared.Meaning.{Meaning}
 use Rattle.bits.specs.Bits.{bits_of}
 use Rattle.bits.specs.Packed.{bytes_for, padded, over}
-use Rattle.writer.specs.Write.{Report, laid, write_of, write_bytes, written}
-use Rattle.writer.specs.declared.Written.{Written}
+use Rattle.writer.specs.Write.{Report, laid, write_of, write_bytes}
 
 -- "at most the content's bits divided by 5, rounded down. Content has at most 257 bytes, 2,056 bits; so 411 zeros, 2,483 line bits, 311 buffer bytes."
 pub record Within (info : List ℕ) (r : Report) : Type 0 where
@@ -30,9 +30,9 @@ WriteNumbers = (address : ℕ) (m : Meaning) (info : List ℕ) (room : ℕ) → 
 
 -- the definition that lists the number and the values of each answer loses nothing
 abbrev pub WriteLosesNothing : Type 0
-WriteLosesNothing = (a b : Written) → written a ≡ written b → a ≡ b
+WriteLosesNothing = (a b : Result Report Refusal) → answer a ≡ answer b → a ≡ b
 
 -- an outcome that the writer's contract allows: the answer, and the lent buffer afterwards
-pub record WriteAllowed (address : ℕ) (m : Meaning) (info old : List ℕ) (a : Written) (after : List ℕ) : Type 0 where
-  pub answer : written a ≡ write_of address m info (length old)
+pub record WriteAllowed (address : ℕ) (m : Meaning) (info old : List ℕ) (a : Result Report Refusal) (after : List ℕ) : Type 0 where
+  pub answer : answer a ≡ write_of address m info (length old)
   pub bytes : after ≡ write_bytes address m info old

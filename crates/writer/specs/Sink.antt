@@ -1,5 +1,5 @@
 -- Writing bits into a lent buffer: what the private functions of the packed sink and of the line promise each other.
-use Rattle.std.specs.Prelude.{ℕ, ◌+◌, ◌*◌, ◌/◌, ◌^◌, ◌≤◌, ◌<◌, ◌≡◌, Bool, List, ◌++◌, length, take, drop}
+use Rattle.std.specs.Prelude.{ℕ, ◌+◌, ◌*◌, ◌/◌, ◌≤◌, ◌≡◌, Bool, List, ◌++◌, length, take, drop}
 use Rattle.bits.specs.Bits.{low, bits_of}
 use Rattle.writer.specs.declared.packed.Sink.{Sink}
 
@@ -11,11 +11,6 @@ sofar out s = bits_of (take s.at out) ++ low s.waits s.acc
 abbrev pub placed : Sink → ℕ
 placed s = 8 * s.at + s.waits
 
--- fewer than eight bits wait
-pub record Sound (s : Sink) : Type 0 where
-  pub few : s.waits < 8
-  pub small : s.acc < 2 ^ s.waits
-
 -- whole bytes of n more bits have room
 abbrev pub Room : List ℕ → Sink → ℕ → Type 0
 Room out s n = (placed s + n) / 8 ≤ length out
@@ -26,4 +21,3 @@ pub record Added (out : List ℕ) (s : Sink) (more : List Bool) (out' : List ℕ
   pub rest : drop s'.at out' ≡ drop s'.at out
   pub long : length out' ≡ length out
   pub place : placed s' ≡ placed s + length more
-  pub sound : Sound s'

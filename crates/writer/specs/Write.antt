@@ -1,7 +1,7 @@
 -- Writing a frame (01, "Bits between flags" and "Numbers given back").
 use Rattle.std.specs.Prelude.{ℕ, Bool, List, ◌∷◌, ◌++◌, eqb, ltb, length, drop}
 use Rattle.frame.specs.Pick.{pick, ◌then◌}
-use Rattle.frame.specs.Answer.{Answer, gives, refuses, unless}
+use Rattle.frame.specs.Answer.{Answer, unless}
 use Rattle.frame.specs.Control.{byte_of}
 use Rattle.frame.specs.Refusal.{address_refusal, frame_refusal}
 use Rattle.frame.specs.declared.Meaning.{Meaning}
@@ -10,8 +10,7 @@ use Rattle.bits.specs.Insert.{insert, zeros}
 use Rattle.bits.specs.Check.{check_bytes}
 use Rattle.bits.specs.Packed.{bytes_for, padded}
 use Rattle.bits.specs.Flag.{flag}
-use Rattle.writer.specs.declared.Written.{Written}
-use Rattle.writer.specs.declared.Written.TheVariants.{Line, Refused}
+pub use Rattle.writer.specs.declared.Report.{Report}
 
 -- "Content is address, control, information, check word", the check word "over address, control and information in line order"
 unfoldable pub content_bytes : ℕ → ℕ → List ℕ → List ℕ
@@ -26,10 +25,6 @@ unfoldable pub laid : List Bool → List ℕ → List ℕ
 laid bits old = bytes_of (bytes_for (length bits)) (padded bits) ++ drop (bytes_for (length bits)) old
 
 -- "The writer reports the total of line bits, and reports how many zeros it inserted"
-pub record Report : Type 0 where
-  pub bits : ℕ
-  pub zeros : ℕ
-
 abbrev pub report : List ℕ → Report
 report content = record { bits = length (line content); zeros = zeros 0 (bits_of content) }
 
@@ -58,8 +53,3 @@ write_of address m info room = answered (write_refusal address m info room) (con
 
 unfoldable pub write_bytes : ℕ → Meaning → List ℕ → List ℕ → List ℕ
 write_bytes address m info old = left (write_refusal address m info (length old)) (content_of address m info) old
-
--- the number and the values of each case
-abbrev pub written : Written → Answer Report
-written (Line bits zeros) = gives (record { bits = bits; zeros = zeros })
-written (Refused n) = refuses n

@@ -1,37 +1,48 @@
 // The packed sink: bits laid one after the other into a lent buffer, the first in bit 0 of byte 0.
-ghost use Rattle.std.specs.Prelude.{◌^◌, ◌≤◌, ◌<◌};
-ghost use Rattle.bits.specs.Bits.{low};
-ghost use Rattle.writer.specs.Sink.{Added, Room, Sound};
+ghost use Rattle.std.specs.Prelude.{◌≡◌, ◌^◌, ◌≤◌, ◌<◌};
 
-// Where the next whole byte goes, and the bits that still wait for one, the earliest lowest.
+// Where the next whole byte goes, and the bits that still wait for one, fewer than eight, the earliest lowest. The lent buffer is no field of it: each method
+// would have to promise besides that the field still holds the same reference.
 #[derive(Clone, Copy)]
 pub(crate) struct Sink {
     pub at: usize,
     pub acc: u32,
-    pub waits: u32,
+    pub waits: u8,
+    ghost few: { waits < 8 },
+    ghost small: { acc < 2 ^ waits },
 }
 
-// Appends the `count` lowest bits of `bits`, lowest first.
-pub(crate) fn append(out: &mut [u8], sink: Sink, bits: u32, count: u32) -> Sink
-    requires { Sound sink × (count ≤ 10) × (bits < 2 ^ count) × Room out.old sink count }
-    ensures { Added out.old sink (low count bits) out.new result }
-{
-    let at = sink.at;
-    let acc = sink.acc;
-    let waits = sink.waits;
-    let above = bits << waits;
-    let mut rest = acc + above;
-    let mut left = waits + count;
-    let mut place = at;
-    while 8 <= left {
-        out[place] = (rest % 256) as u8;
-        rest = rest / 256;
-        left = left - 8;
-        place = place + 1;
+impl Sink {
+    ghost use Rattle.bits.specs.Bits.{low};
+    ghost use Rattle.writer.specs.Sink.{Added, Room, placed};
+
+    // How many bits were laid.
+    pub(crate) fn placed(&self) -> usize
+        requires { placed self.now ≤ 4096 }
+        ensures { result ≡ placed self.now }
+    {
+        8 * self.at + usize::from(self.waits)
     }
-    Sink {
-        at: place,
-        acc: rest,
-        waits: left,
+
+    // Appends the `count` lowest bits of `bits`, lowest first.
+    pub(crate) fn append(&mut self, out: &mut [u8], bits: u32, count: u8)
+        requires { (count ≤ 10) × (bits < 2 ^ count) × Room out.old self.old count }
+        ensures { Added out.old self.old (low count bits) out.new self.new }
+    {
+        // On copies: more than seven bits wait here for a while, which no sink holds.
+        let mut at = self.at;
+        let mut acc = self.acc + (bits << self.waits);
+        let mut waits = self.waits + count;
+        // No index is counted: whole bytes go while there are any, and their place outlasts the call.
+        while waits >= 8 {
+            let [byte, ..] = acc.to_le_bytes();
+            out[at] = byte;
+            at += 1;
+            acc >>= 8;
+            waits -= 8;
+        }
+        self.at = at;
+        self.acc = acc;
+        self.waits = waits;
     }
 }

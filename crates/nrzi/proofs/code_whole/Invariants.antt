@@ -1,18 +1,15 @@
--- `nrzi::code_whole` meets its contract.
-use Prim.Native.Nat.{◌≤◌, ◌-◌}
+-- `nrzi::code_whole` meets its contract: the bytes passed are coded.
 use mathlib.Core.Path.{◌≡◌}
 use mathlib.Core.List.{◌++◌}
-use lib.ListN.{length, take, drop}
+use lib.ListN.{take, drop}
 use Rattle.bits.specs.Bits.{bits_of, bytes_of}
 use Rattle.nrzi.specs.Nrzi.{coding, reached}
 use Rattle.nrzi.proofs.code_whole.Given as goal
 
 abbrev pub invariant-loop-i : goal.invariant-loop-i
-invariant-loop-i l =
-    (l.i ≤ l.whole)
-    × (length l.out ≡ length l.initial.out)
-    × (l.at ≡ reached l.back l.level (bits_of (take l.i l.input)))
-    × (l.out ≡ bytes_of l.i (coding l.back l.level (bits_of (take l.i l.input))) ++ drop l.i l.initial.out)
-
-abbrev pub decreases-loop-i : goal.decreases-loop-i
-decreases-loop-i l = l.whole - l.i
+invariant-loop-i g l =
+    let bits = bits_of (take l.i l.input) in
+    record {
+      level : l.at ≡ reached g.W.Way.back l.level bits;
+      bytes : l.out ≡ bytes_of l.i (coding g.W.Way.back l.level bits) ++ drop l.i l.fn.out;
+    }

@@ -1,51 +1,23 @@
--- `writer::write` meets its contract: each test by the callee that makes it, in 01's order.
-use mathlib.Core.Path.{◌∙◌, ap, sym}
-use Rattle.frame.specs.Control.{encoded}
-use Rattle.writer.proofs.Answering.{encode_gives, encode_refuses, by_address, by_counts, went_on}
+-- `writer::write` meets its contract: what is left beside the tests is what was laid.
+use mathlib.Core.Path.{◌∙◌, ap, refl, sym}
+use native.Mathlib.Omega.{arith}
+use Rattle.frame.specs.Answer.{gives}
+use Rattle.frame.proofs.Messages.{information_few}
+use Rattle.writer.proofs.Answering.{enough, reported, written}
 use Rattle.writer.proofs.write.Goals as goal
 
-pub returns-then-refusal-ne0-clause-answer : goal.returns-then-refusal-ne0-clause-answer
-returns-then-refusal-ne0-clause-answer c =
-    let a = c.args in
-    (by_address a.address a.meaning a.information.now a.out.now c.address_refusal-refusal.result c.if-refusal-ne0.true (sym c.address_refusal-refusal.ensures)).0
+pub new-content-requires : goal.new-content-requires
+new-content-requires c = information_few c.args.meaning c.args.information.now (sym c.in_ok-information_refusal.ensures)
 
-pub returns-then-refusal-ne0-clause-bytes : goal.returns-then-refusal-ne0-clause-bytes
-returns-then-refusal-ne0-clause-bytes c =
-    let a = c.args in
-    (by_address a.address a.meaning a.information.now a.out.now c.address_refusal-refusal.result c.if-refusal-ne0.true (sym c.address_refusal-refusal.ensures)).1
+pub overflow_mul-plain : goal.overflow_mul-plain
+overflow_mul-plain c = omega (arith, information_few c.args.meaning c.args.information.now (sym c.in_ok-information_refusal.ensures))
 
-pub returns-in-Byte-clause-answer : goal.returns-in-Byte-clause-answer
-returns-in-Byte-clause-answer c =
-    let a = c.args in
-    let k = c in
-    let w = c.with_control.ensures in
-    let passed = sym c.address_refusal-refusal.ensures ∙ c.if-refusal-ne0.false in
-    let on = went_on a.address a.meaning a.information.now a.out.now passed k.in-Byte.control
-    (encode_gives a.meaning k.in-Byte.control (sym c.encode-encoded.ensures ∙ ap encoded c.in-Byte.is)) in
-    w.answer ∙ on.0
+pub overflow_sub-zeros : goal.overflow_sub-zeros
+overflow_sub-zeros c = enough c.args.address c.in_ok-control.control c.args.information.now c.new-content.ensures c.lay-bits.ensures.bits
 
-pub returns-in-Byte-clause-bytes : goal.returns-in-Byte-clause-bytes
-returns-in-Byte-clause-bytes c =
+pub returns-clause-answer : goal.returns-clause-answer
+returns-clause-answer c =
     let a = c.args in
-    let k = c in
-    let w = c.with_control.ensures in
-    let passed = sym c.address_refusal-refusal.ensures ∙ c.if-refusal-ne0.false in
-    let on = went_on a.address a.meaning a.information.now a.out.now passed k.in-Byte.control
-    (encode_gives a.meaning k.in-Byte.control (sym c.encode-encoded.ensures ∙ ap encoded c.in-Byte.is)) in
-    w.bytes ∙ on.1
-
-pub returns-in-Refused-clause-answer : goal.returns-in-Refused-clause-answer
-returns-in-Refused-clause-answer c =
-    let a = c.args in
-    let passed = sym c.address_refusal-refusal.ensures ∙ c.if-refusal-ne0.false in
-    let n = c.in-Refused.number in
-    let number = encode_refuses a.meaning n (sym c.encode-encoded.ensures ∙ ap encoded c.in-Refused.is) in
-    (by_counts a.address a.meaning a.information.now a.out.now passed n number.1 number.0).0
-
-pub returns-in-Refused-clause-bytes : goal.returns-in-Refused-clause-bytes
-returns-in-Refused-clause-bytes c =
-    let a = c.args in
-    let passed = sym c.address_refusal-refusal.ensures ∙ c.if-refusal-ne0.false in
-    let n = c.in-Refused.number in
-    let number = encode_refuses a.meaning n (sym c.encode-encoded.ensures ∙ ap encoded c.in-Refused.is) in
-    (by_counts a.address a.meaning a.information.now a.out.now passed n number.1 number.0).1
+    ap gives (reported a.address c.in_ok-control.control a.information.now c.new-content.ensures c.lay-bits.ensures.bits _ refl)
+    ∙ sym (written a.address c.in_ok-control.control a.information.now a.meaning _ (sym c.in_ok-address_refusal.ensures) (sym c.in_ok-control.ensures) (sym c.in_ok-information_refusal.ensures)
+    (rw c.new-content.ensures at (sym c.in_ok-room_refusal.ensures)))

@@ -1,21 +1,14 @@
 -- `bitbus::master_calls::bitbus_master_clear` meets its contract.
-use borrow.Author.Tests.{eq-eqb}
-use Rattle.frame.proofs.Tests.{tests}
+use mathlib.Core.Path.{ap, ◌∙◌}
+use mathlib.Core.List.{[]}
+use borrow.Author.Rules.{rules}
+use Rattle.master.specs.Master.{clear_of}
+use Rattle.bitbus.specs.Call.{number}
 use Rattle.bitbus.specs.MasterCalls.{master_clear}
 use Rattle.bitbus.proofs.master_calls.bitbus_master_clear.Goals as goal
 
-pub returns-then-wrong-ne0-clause-number : goal.returns-then-wrong-ne0-clause-number
+pub returns : goal.returns
 unfolding master_clear
-returns-then-wrong-ne0-clause-number c = search (tests, ← c.master_wrong-wrong.ensures)
-
-pub returns-then-wrong-ne0-clause-end : goal.returns-then-wrong-ne0-clause-end
-unfolding master_clear
-returns-then-wrong-ne0-clause-end c = search (tests, ← c.master_wrong-wrong.ensures)
-
-pub returns-clause-number : goal.returns-clause-number
-unfolding master_clear
-returns-clause-number c = simp (← c.master_wrong-wrong.ensures, eq-eqb _ _ c.if-wrong-ne0.false, ← c.master_at-master.ensures, ← c.clear-done.ensures) c.finish.ensures.number
-
-pub returns-clause-end : goal.returns-clause-end
-unfolding master_clear
-returns-clause-end c = simp (← c.master_wrong-wrong.ensures, eq-eqb _ _ c.if-wrong-ne0.false, ← c.master_at-master.ensures, ← c.clear-done.ensures) c.finish.ensures.end
+returns c =
+    let given = c.on_end.ensures clear_of (λ e. []) (λ r e left h. search rules) in
+    record { number = c.number.ensures ∙ ap (λ g. number g.answer) given.0; end = ap (λ g. g.end) given.0 }

@@ -1,37 +1,21 @@
 -- `bitbus::master_calls::bitbus_master_order` meets its contract.
-use borrow.Author.Tests.{eq-eqb}
-use Rattle.frame.proofs.Tests.{tests}
+use mathlib.Core.Path.{ap, ◌∙◌}
+use lib.ListN.{length}
+use borrow.Author.Rules.{rules}
+use Rattle.master.specs.Order.{order_of, order_bytes}
+use Rattle.master.specs.declared.Master.{Master}
+use Rattle.bitbus.specs.Call.{number, after, line_values}
 use Rattle.bitbus.specs.MasterCalls.{master_order, master_order_out}
 use Rattle.bitbus.proofs.master_calls.bitbus_master_order.Goals as goal
 
-pub returns-then-wrong-ne0-clause-number : goal.returns-then-wrong-ne0-clause-number
+pub returns : goal.returns
 unfolding master_order master_order_out
-returns-then-wrong-ne0-clause-number c = search (tests, ← c.master_wrong-wrong.ensures)
-
-pub returns-then-wrong-ne0-clause-end : goal.returns-then-wrong-ne0-clause-end
-unfolding master_order master_order_out
-returns-then-wrong-ne0-clause-end c = search (tests, ← c.master_wrong-wrong.ensures)
-
-pub returns-then-wrong-ne0-clause-out : goal.returns-then-wrong-ne0-clause-out
-unfolding master_order master_order_out
-returns-then-wrong-ne0-clause-out c = search (tests, ← c.master_wrong-wrong.ensures)
-
-pub returns-then-wrong-ne0-clause-values : goal.returns-then-wrong-ne0-clause-values
-unfolding master_order master_order_out
-returns-then-wrong-ne0-clause-values c = search (tests, ← c.master_wrong-wrong.ensures)
-
-pub returns-clause-number : goal.returns-clause-number
-unfolding master_order master_order_out
-returns-clause-number c = let f = c.finish_order.ensures in simp (← c.master_wrong-wrong.ensures, eq-eqb _ _ c.if-wrong-ne0.false, ← c.master_at-master.ensures, ← c.order-ordered.ensures.answer) f.number
-
-pub returns-clause-end : goal.returns-clause-end
-unfolding master_order master_order_out
-returns-clause-end c = let f = c.finish_order.ensures in simp (← c.master_wrong-wrong.ensures, eq-eqb _ _ c.if-wrong-ne0.false, ← c.master_at-master.ensures, ← c.order-ordered.ensures.answer) f.end
-
-pub returns-clause-out : goal.returns-clause-out
-unfolding master_order master_order_out
-returns-clause-out c = let f = c.finish_order.ensures in simp (← c.master_wrong-wrong.ensures, eq-eqb _ _ c.if-wrong-ne0.false, ← c.master_at-master.ensures) c.order-ordered.ensures.bytes
-
-pub returns-clause-values : goal.returns-clause-values
-unfolding master_order master_order_out
-returns-clause-values c = let f = c.finish_order.ensures in simp (← c.master_wrong-wrong.ensures, eq-eqb _ _ c.if-wrong-ne0.false, ← c.master_at-master.ensures, ← c.order-ordered.ensures.answer) f.values
+returns c =
+    let a = c.args in
+    let given = c.on_end-ordered.ensures (λ (e : Master). order_of e a.tick (length a.out.now)) (λ (e : Master). order_bytes e a.tick a.out.now) (λ r e left h. search rules) in
+    record {
+      number = c.finish.ensures.number ∙ ap (λ g. number g.answer) given.0;
+      end = ap (λ g. g.end) given.0;
+      out = given.1;
+      values = c.finish.ensures.values ∙ ap (λ g. after line_values g.answer a.values.now) given.0;
+    }

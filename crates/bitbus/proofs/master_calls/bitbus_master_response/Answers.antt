@@ -1,29 +1,21 @@
 -- `bitbus::master_calls::bitbus_master_response` meets its contract.
-use borrow.Author.Tests.{eq-eqb}
-use Rattle.frame.proofs.Tests.{tests}
+use mathlib.Core.Path.{◌∙◌}
+use mathlib.Core.List.{[]}
+use borrow.Author.Rules.{rules}
+use Rattle.master.specs.Response.{response_of}
+use Rattle.master.specs.declared.Master.{Master}
+use Rattle.layout.specs.Control.{meaning_of}
+use Rattle.layout.specs.MasterLayout.{master_at, master_bytes, master_wrong}
 use Rattle.bitbus.specs.MasterCalls.{master_response}
+use Rattle.bitbus.proofs.Results.{heard_by, hears, same_call}
 use Rattle.bitbus.proofs.master_calls.bitbus_master_response.Goals as goal
 
-pub returns-then-wrong-ne0-clause-number : goal.returns-then-wrong-ne0-clause-number
+pub returns : goal.returns
 unfolding master_response
-returns-then-wrong-ne0-clause-number c = search (tests, ← c.master_wrong-wrong.ensures)
-
-pub returns-then-wrong-ne0-clause-end : goal.returns-then-wrong-ne0-clause-end
-unfolding master_response
-returns-then-wrong-ne0-clause-end c = search (tests, ← c.master_wrong-wrong.ensures)
-
-pub returns-then-wrong-ne0-clause-values : goal.returns-then-wrong-ne0-clause-values
-unfolding master_response
-returns-then-wrong-ne0-clause-values c = search (tests, ← c.master_wrong-wrong.ensures)
-
-pub returns-clause-number : goal.returns-clause-number
-unfolding master_response
-returns-clause-number c = let f = c.finish_response.ensures in simp (← c.master_wrong-wrong.ensures, eq-eqb _ _ c.if-wrong-ne0.false, ← c.master_at-master.ensures, ← c.meaning_of-meaning.ensures, ← c.response-heard.ensures) f.number
-
-pub returns-clause-end : goal.returns-clause-end
-unfolding master_response
-returns-clause-end c = let f = c.finish_response.ensures in simp (← c.master_wrong-wrong.ensures, eq-eqb _ _ c.if-wrong-ne0.false, ← c.master_at-master.ensures, ← c.meaning_of-meaning.ensures, ← c.response-heard.ensures) f.end
-
-pub returns-clause-values : goal.returns-clause-values
-unfolding master_response
-returns-clause-values c = let f = c.finish_response.ensures in simp (← c.master_wrong-wrong.ensures, eq-eqb _ _ c.if-wrong-ne0.false, ← c.master_at-master.ensures, ← c.meaning_of-meaning.ensures, ← c.response-heard.ensures) f.values
+returns c =
+    let a = c.args in
+    let b = a.end.now in
+    let heard = c.on_end-heard.ensures (λ (m : Master). heard_by (response_of m a.address (meaning_of a.control) a.information.now a.tick)) (λ m. [])
+    (λ r m left h. (hears _ _ _ (search rules), search rules)) in
+    let same = same_call (master_wrong b) b master_bytes (response_of (master_at b) a.address (meaning_of a.control) a.information.now a.tick) _ _ a.values.now heard.0 in
+    record { number = c.finish.ensures.number ∙ same.numbers; end = same.end; values = c.finish.ensures.values ∙ same.values }

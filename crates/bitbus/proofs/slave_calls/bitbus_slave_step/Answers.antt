@@ -1,37 +1,22 @@
 -- `bitbus::slave_calls::bitbus_slave_step` meets its contract.
-use borrow.Author.Tests.{eq-eqb}
-use Rattle.frame.proofs.Tests.{tests}
+use mathlib.Core.Path.{ap, ◌∙◌}
+use lib.ListN.{length}
+use borrow.Author.Rules.{rules}
+use Rattle.slave.specs.Step.{step_of, step_bytes}
+use Rattle.slave.specs.declared.Slave.{Slave}
+use Rattle.layout.specs.Control.{meaning_of}
+use Rattle.bitbus.specs.Call.{number, after, step_values}
 use Rattle.bitbus.specs.SlaveCalls.{slave_step, slave_step_out}
 use Rattle.bitbus.proofs.slave_calls.bitbus_slave_step.Goals as goal
 
-pub returns-then-wrong-ne0-clause-number : goal.returns-then-wrong-ne0-clause-number
+pub returns : goal.returns
 unfolding slave_step slave_step_out
-returns-then-wrong-ne0-clause-number c = search (tests, ← c.slave_wrong-wrong.ensures)
-
-pub returns-then-wrong-ne0-clause-end : goal.returns-then-wrong-ne0-clause-end
-unfolding slave_step slave_step_out
-returns-then-wrong-ne0-clause-end c = search (tests, ← c.slave_wrong-wrong.ensures)
-
-pub returns-then-wrong-ne0-clause-out : goal.returns-then-wrong-ne0-clause-out
-unfolding slave_step slave_step_out
-returns-then-wrong-ne0-clause-out c = search (tests, ← c.slave_wrong-wrong.ensures)
-
-pub returns-then-wrong-ne0-clause-values : goal.returns-then-wrong-ne0-clause-values
-unfolding slave_step slave_step_out
-returns-then-wrong-ne0-clause-values c = search (tests, ← c.slave_wrong-wrong.ensures)
-
-pub returns-clause-number : goal.returns-clause-number
-unfolding slave_step slave_step_out
-returns-clause-number c = let f = c.finish_step.ensures in simp (← c.slave_wrong-wrong.ensures, eq-eqb _ _ c.if-wrong-ne0.false, ← c.slave_at-slave.ensures, ← c.meaning_of-meaning.ensures, ← c.step-stepped.ensures.answer) f.number
-
-pub returns-clause-end : goal.returns-clause-end
-unfolding slave_step slave_step_out
-returns-clause-end c = let f = c.finish_step.ensures in simp (← c.slave_wrong-wrong.ensures, eq-eqb _ _ c.if-wrong-ne0.false, ← c.slave_at-slave.ensures, ← c.meaning_of-meaning.ensures, ← c.step-stepped.ensures.answer) f.end
-
-pub returns-clause-out : goal.returns-clause-out
-unfolding slave_step slave_step_out
-returns-clause-out c = let f = c.finish_step.ensures in simp (← c.slave_wrong-wrong.ensures, eq-eqb _ _ c.if-wrong-ne0.false, ← c.slave_at-slave.ensures, ← c.meaning_of-meaning.ensures) c.step-stepped.ensures.bytes
-
-pub returns-clause-values : goal.returns-clause-values
-unfolding slave_step slave_step_out
-returns-clause-values c = let f = c.finish_step.ensures in simp (← c.slave_wrong-wrong.ensures, eq-eqb _ _ c.if-wrong-ne0.false, ← c.slave_at-slave.ensures, ← c.meaning_of-meaning.ensures, ← c.step-stepped.ensures.answer) f.values
+returns c =
+    let a = c.args in
+    let given = c.on_end-stepped.ensures (λ (e : Slave). step_of e a.address (meaning_of a.control) a.information.now (length a.out.now)) (λ (e : Slave). step_bytes e a.address (meaning_of a.control) a.information.now a.out.now) (λ r e left h. search rules) in
+    record {
+      number = c.finish.ensures.number ∙ ap (λ g. number g.answer) given.0;
+      end = ap (λ g. g.end) given.0;
+      out = given.1;
+      values = c.finish.ensures.values ∙ ap (λ g. after step_values g.answer a.values.now) given.0;
+    }

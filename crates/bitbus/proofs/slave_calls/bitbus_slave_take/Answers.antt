@@ -1,37 +1,21 @@
 -- `bitbus::slave_calls::bitbus_slave_take` meets its contract.
-use borrow.Author.Tests.{eq-eqb}
-use Rattle.frame.proofs.Tests.{tests}
+use mathlib.Core.Path.{ap, ◌∙◌}
+use lib.ListN.{length}
+use borrow.Author.Rules.{rules}
+use Rattle.slave.specs.Slave.{take_of, take_bytes}
+use Rattle.slave.specs.declared.Slave.{Slave}
+use Rattle.bitbus.specs.Call.{number, after, take_values}
 use Rattle.bitbus.specs.SlaveCalls.{slave_take, slave_take_out}
 use Rattle.bitbus.proofs.slave_calls.bitbus_slave_take.Goals as goal
 
-pub returns-then-wrong-ne0-clause-number : goal.returns-then-wrong-ne0-clause-number
+pub returns : goal.returns
 unfolding slave_take slave_take_out
-returns-then-wrong-ne0-clause-number c = search (tests, ← c.slave_wrong-wrong.ensures)
-
-pub returns-then-wrong-ne0-clause-end : goal.returns-then-wrong-ne0-clause-end
-unfolding slave_take slave_take_out
-returns-then-wrong-ne0-clause-end c = search (tests, ← c.slave_wrong-wrong.ensures)
-
-pub returns-then-wrong-ne0-clause-out : goal.returns-then-wrong-ne0-clause-out
-unfolding slave_take slave_take_out
-returns-then-wrong-ne0-clause-out c = search (tests, ← c.slave_wrong-wrong.ensures)
-
-pub returns-then-wrong-ne0-clause-values : goal.returns-then-wrong-ne0-clause-values
-unfolding slave_take slave_take_out
-returns-then-wrong-ne0-clause-values c = search (tests, ← c.slave_wrong-wrong.ensures)
-
-pub returns-clause-number : goal.returns-clause-number
-unfolding slave_take slave_take_out
-returns-clause-number c = let f = c.finish_take.ensures in simp (← c.slave_wrong-wrong.ensures, eq-eqb _ _ c.if-wrong-ne0.false, ← c.slave_at-slave.ensures, ← c.take-took.ensures.answer) f.number
-
-pub returns-clause-end : goal.returns-clause-end
-unfolding slave_take slave_take_out
-returns-clause-end c = let f = c.finish_take.ensures in simp (← c.slave_wrong-wrong.ensures, eq-eqb _ _ c.if-wrong-ne0.false, ← c.slave_at-slave.ensures, ← c.take-took.ensures.answer) f.end
-
-pub returns-clause-out : goal.returns-clause-out
-unfolding slave_take slave_take_out
-returns-clause-out c = let f = c.finish_take.ensures in simp (← c.slave_wrong-wrong.ensures, eq-eqb _ _ c.if-wrong-ne0.false, ← c.slave_at-slave.ensures) c.take-took.ensures.bytes
-
-pub returns-clause-values : goal.returns-clause-values
-unfolding slave_take slave_take_out
-returns-clause-values c = let f = c.finish_take.ensures in simp (← c.slave_wrong-wrong.ensures, eq-eqb _ _ c.if-wrong-ne0.false, ← c.slave_at-slave.ensures, ← c.take-took.ensures.answer) f.values
+returns c =
+    let a = c.args in
+    let given = c.on_end-took.ensures (λ (e : Slave). take_of e (length a.out.now)) (λ (e : Slave). take_bytes e a.out.now) (λ r e left h. search rules) in
+    record {
+      number = c.finish.ensures.number ∙ ap (λ g. number g.answer) given.0;
+      end = ap (λ g. g.end) given.0;
+      out = given.1;
+      values = c.finish.ensures.values ∙ ap (λ g. after take_values g.answer a.values.now) given.0;
+    }

@@ -14,5 +14,5 @@ returns c =
     let first = a.first.now in
     let second = a.second.now in
     ap (λ (r : ℕ). 0xffff - r)
-    (c.over-whole.ensures ∙ ap (λ (r : ℕ). register r (bits_of second)) c.over-half.ensures
+    (c.over-2.ensures ∙ ap (λ (r : ℕ). register r (bits_of second)) c.over.ensures
     ∙ sym (register-append 0xffff (bits_of first) (bits_of second)) ∙ ap (register 0xffff) (sym (bits_of_append first second)))

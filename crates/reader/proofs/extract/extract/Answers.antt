@@ -1,15 +1,15 @@
 -- `reader::extract::extract` meets its contract. The invariant: the kept bits of the part before the place stand in the bytes and in the window. The measure is what is left of the part.
 use Prim.Native.Nat.{ℕ, ◌-◌, ◌*◌, ◌/◌, ◌+◌, ◌<◌, ◌≤◌}
-use mathlib.Core.Path.{◌≡◌, ◌∙◌, ap, refl}
+use mathlib.Core.Path.{◌≡◌, ◌∙◌, ap}
 use mathlib.Core.Bool.{Bool, true}
 use mathlib.Core.List.{List, [], ◌∷◌, ◌++◌}
 use native.Mathlib.Omega.{arith}
-use lib.ListN.{length, get_or, set, drop, length-set, length-take}
+use lib.ListN.{length, get_or, set, drop, length-take}
 use Rattle.bits.specs.Bits.{bits_of, num}
 use Rattle.bits.proofs.BitLaws.{length_bits_of}
 use Rattle.reader.specs.Extract.{run_after}
 use Rattle.reader.specs.Flags.{part}
-use Rattle.reader.proofs.Keeping.{Keep, keep_first, keep_skip, keep_bit, part-next}
+use Rattle.reader.proofs.Keeping.{Keep, keep_first, keep_skip, keep_bit, keep_all, part-next}
 use Rattle.reader.proofs.extract.extract.Goals as goal
 
 -- as many bits are kept as there are, at most
@@ -39,30 +39,38 @@ room s i e l bytes n w run m k h g f = omega (arith, short s i l bytes n w run k
 
 pub loop-place-init : goal.loop-place-init
 loop-place-init c =
-    let a = c.args in
-    let none : a.start - a.start ≡ 0 = omega arith in
-    (omega arith, omega arith, refl, rw none (keep_first a.bytes.now))
+    let none : c.args.content.start - c.args.content.start ≡ 0 = omega arith in
+    rw none (keep_first c.args.bytes.now)
 
 pub loop-place-preserved-then-run-eq5 : goal.loop-place-preserved-then-run-eq5
 loop-place-preserved-then-run-eq5 c =
-    let t = c in
-    let a = t.args in
-    let p = t.requires in
-    let v = t.loop-place.invariant in
-    (omega arith, omega arith, v.2, skipped a.buffer.now a.start a.end _ _ _ _ _ _ v.3 v.0 t.loop-place-test.true p.1 c.bit-b.ensures c.if-run-eq5.true)
+    let a = c.args in
+    skipped a.buffer.now a.content.start a.content.end _ _ _ _ _ _ c.loop-place.invariant (omega arith) (omega arith) c.requires.1 c.bit-bit.ensures c.if-run-eq5.true
+
+pub bounds-bytes-bits : goal.bounds-bytes-bits
+bounds-bytes-bits c =
+    let a = c.args in
+    room a.content.start c.loop-place.place a.content.end (bits_of a.buffer.now) _ _ _ _ _ c.loop-place.invariant (omega arith) (omega arith) (omega arith)
+
+pub overflow_add-bits : goal.overflow_add-bits
+overflow_add-bits c =
+    let a = c.args in
+    omega (arith, short a.content.start c.loop-place.place (bits_of a.buffer.now) _ _ _ _ c.loop-place.invariant (omega arith))
+
+pub lengthened-run-requires : goal.lengthened-run-requires
+lengthened-run-requires c = let small = c.loop-place.invariant.small in omega arith
 
 pub loop-place-preserved : goal.loop-place-preserved
 loop-place-preserved c =
-    let t = c in
-    let a = t.args in
-    let p = t.requires in
-    let v = t.loop-place.invariant in (
-      omega arith,
-      omega arith,
-      simp length-set v.2,
-      kept_on a.buffer.now a.start a.end _ _ _ _ _ _ v.3 v.0 t.loop-place-test.true p.1 c.bit-b.ensures _ _
-          c.if-run-eq5.false
-          c.shift_in-window.ensures
-          c.lengthened-run.ensures
-          (omega (arith, p.2, v.2)),
-    )
+    let a = c.args in
+    kept_on a.buffer.now a.content.start a.content.end _ _ _ _ _ _ c.loop-place.invariant (omega arith) (omega arith) c.requires.1 c.bit-bit.ensures _ _
+    c.if-run-eq5.false
+    c.shift_in-window.ensures
+    c.lengthened-run.ensures
+    (omega arith)
+
+pub returns : goal.returns
+returns c =
+    let a = c.args in
+    let all : c.loop-place.place ≡ a.content.end = omega arith in
+    keep_all (part a.content.start a.content.end (bits_of a.buffer.now)) _ _ _ _ (rw all at c.loop-place.invariant)

@@ -1,5 +1,4 @@
--- `reader::seek::find` meets its contract. The invariant: the window holds the last eight bits, and what is known of flags before the place. The measure is what is left of the bits.
-use Prim.Native.Nat.{◌-◌}
+-- `reader::seek::find` meets its contract. The invariant: the window holds the last eight bits, and what is known of flags before the place.
 use lib.ListN.{take}
 use Rattle.bits.specs.Bits.{bits_of}
 use Rattle.reader.proofs.Seeking.{Seek}
@@ -7,6 +6,3 @@ use Rattle.reader.proofs.seek.find.Given as goal
 
 abbrev pub invariant-loop-place : goal.invariant-loop-place
 invariant-loop-place l = Seek (take l.bits (bits_of l.buffer)) l.place l.window l.start
-
-abbrev pub decreases-loop-place : goal.decreases-loop-place
-decreases-loop-place l = l.bits - l.place
