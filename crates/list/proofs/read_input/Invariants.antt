@@ -1,3 +1,4 @@
+-- The loop of `list::read_input`: what was read so far is the first of the input.
 use Rattle.std.proofs.Common.{length, ◌-◌, ◌≤◌, take}
 use Rattle.std.specs.Io.KnownBytes.{Consumes}
 use Rattle.list.proofs.read_input.Given as goal

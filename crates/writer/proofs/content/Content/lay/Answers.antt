@@ -26,14 +26,18 @@ append-requires-2 c =
 pub placed-bits-requires : goal.placed-bits-requires
 placed-bits-requires c =
     let w = whole c.args.self.now in
-    let e = lined w c.from.ensures c.append.ensures c.lay_inside.ensures.added c.from-2.ensures c.append-2.ensures in
-    omega (arith, e.place, line_few w c.args.self.now.few)
+    let one = c.append.ensures in
+    let two = c.lay_inside.ensures.added in
+    let three = c.append-2.ensures in
+    grind (arith, length-low, one.place, two.place, three.place, length-line w, line_few w c.args.self.now.few)
 
 pub append-requires-3 : goal.append-requires-3
 append-requires-3 c =
     let w = whole c.args.self.now in
-    let e = lined w c.from.ensures c.append.ensures c.lay_inside.ensures.added c.from-2.ensures c.append-2.ensures in
-    (omega arith, omega arith, omega (arith, c.requires, e.place, e.long))
+    let one = c.append.ensures in
+    let two = c.lay_inside.ensures.added in
+    let three = c.append-2.ensures in
+    (omega arith, omega arith, grind (arith, length-low, c.requires, length-line w, one.place, one.long, two.place, two.long, three.place, three.long))
 
 pub returns-clause-bits : goal.returns-clause-bits
 returns-clause-bits c =
