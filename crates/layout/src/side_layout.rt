@@ -1,7 +1,7 @@
 // How what both ends hold lies in bytes. The table of offsets stands in specs/Layout.antt and in the header.
 ghost use Rattle.std.specs.Prelude.{◌≡◌, ◌+◌, ◌≤◌, drop, length, take};
 ghost use Rattle.frame.specs.Answer.{refusal_in};
-ghost use Rattle.layout.specs.Layout.{marks_wrong, side_at, side_bytes, side_head};
+ghost use Rattle.layout.specs.Layout.{marks_wrong, number_at, side_at, side_bytes, side_head};
 
 use crate::{master_layout, slave_layout};
 use frame::{ReceiveCount, Refusal, SendCount};
@@ -48,6 +48,7 @@ pub(crate) fn marks_wrong(bytes: &[u8; slave_layout::SIZE]) -> Result<(), Refusa
 }
 
 // What both ends hold, out of the bytes that both have.
+#[tactic(auto, unfolding(crate::specs::Layout::side_at))]
 pub(crate) fn side_at(bytes: &[u8; slave_layout::SIZE]) -> Side
     ensures { result ≡ side_at bytes.now }
 {
@@ -55,12 +56,21 @@ pub(crate) fn side_at(bytes: &[u8; slave_layout::SIZE]) -> Side
         ns: SendCount(bytes[NS_AT]),
         nr: ReceiveCount(bytes[NR_AT]),
         held: array_at(bytes, HELD_AT),
-        holds: usize::from_le_bytes(array_at(bytes, HOLDS_AT)),
+        holds: size_at(bytes, HOLDS_AT),
         sent: bytes[SENT_AT] == 1,
         incoming: array_at(bytes, INCOMING_AT),
-        waits: usize::from_le_bytes(array_at(bytes, WAITS_AT)),
+        waits: size_at(bytes, WAITS_AT),
         doubt: bytes[DOUBT_AT] == 1,
     }
+}
+
+// A size, in eight bytes.
+#[tactic(auto, using(crate::proofs::Conversions::eight_at))]
+fn size_at(bytes: &[u8], at: usize) -> usize
+    requires { at + 8 ≤ length bytes.now }
+    ensures { result ≡ number_at 8 bytes.now at }
+{
+    usize::from_le_bytes(array_at(bytes, at))
 }
 
 // The N bytes from a place on.
