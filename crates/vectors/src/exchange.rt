@@ -1,5 +1,5 @@
 // A scripted exchange between a master and a slave: synchronising, a message each way, a lost response, a late one, a restart.
-use crate::print::{Hex, Kind, say};
+use crate::print::{self, say};
 use frame::{Line, Refusal};
 use master::Master;
 use side::answer::{Change, News};
@@ -129,21 +129,24 @@ impl Link {
     }
 
     fn sent(&self, line: Line, bytes: &[u8]) {
-        let information = Hex(part(bytes, line.size));
-        say!(self.to; "{} {} {} {}\n", line.address, Kind(line.meaning), line.size, information);
+        say!(self.to; "{}", line.address; " ");
+        print::kind(self.to, line.meaning);
+        say!(self.to; " "; "{}", line.size; " ");
+        print::hex(self.to, part(bytes, line.size));
+        say!(self.to; "\n");
     }
 
     fn told(&self, news: News) {
         let link = match news.link {
-            Change::Same => "",
-            Change::Gained => " gained",
-            Change::Lost => " lost",
+            Change::Same => "\n",
+            Change::Gained => " gained\n",
+            Change::Lost => " lost\n",
         };
-        say!(self.to; "confirmed {} handed {}{}\n", news.confirmed, news.handed, link);
+        say!(self.to; "confirmed "; "{}", news.confirmed; " handed "; "{}", news.handed; "{}", link);
     }
 
     fn done(&self, call: &str, done: Result<(), Refusal>) {
-        say!(self.to; "{call} ");
+        say!(self.to; "{} ", call);
         match done {
             Ok(()) => {
                 say!(self.to; "done\n");
@@ -153,17 +156,19 @@ impl Link {
     }
 
     fn taken(&self, call: &str, taken: Result<usize, Refusal>, out: &[u8]) {
-        say!(self.to; "{call} ");
+        say!(self.to; "{} ", call);
         match taken {
             Ok(size) => {
-                say!(self.to; "{}\n", Hex(part(out, size)));
+                print::hex(self.to, part(out, size));
+                say!(self.to; "\n");
             }
             Err(refusal) => self.refused(refusal),
         }
     }
 
     fn refused(&self, refusal: Refusal) {
-        say!(self.to; "{refusal}\n");
+        print::refused(self.to, refusal);
+        say!(self.to; "\n");
     }
 }
 

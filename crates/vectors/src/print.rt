@@ -1,43 +1,51 @@
-// What is printed: words, bytes in hex, and the meanings of frames.
-use frame::Meaning;
-use std::fmt;
+// What is printed: words, bytes in hex, and the meanings of frames, piece by piece.
+use frame::{Meaning, Refusal};
+use std::io::Stdout;
 
-// Prints by a format; what cannot be printed is left out.
+// Prints pieces, each by a format of its own: one that cannot be printed is left out, and the next is tried all the same.
 macro_rules! say {
-    ($to:expr; $($words:tt)*) => {
-        let _ = print!($to; $($words)*);
+    ($to:expr; $($words:literal $(, $value:expr)*);+) => {
+        $(let _ = print!($to; $words $(, $value)*);)+
     };
 }
 
 pub(crate) use say;
 
 // Bytes, two hex digits each.
-#[derive(Clone, Copy)]
-pub struct Hex<'a>(pub &'a [u8]);
-
-impl fmt::Display for Hex<'_> {
-    fn fmt<W: fmt::Write>(&self, f: &mut fmt::Formatter<W>) -> fmt::Result {
-        for byte in self.0 {
-            write!(f, "{byte:02x}")?;
-        }
-        Ok(())
+pub fn hex(to: Stdout, bytes: &[u8]) {
+    for byte in bytes {
+        say!(to; "{:02x}", *byte);
     }
 }
 
 // A kind with Ns and Nr, `-` where it carries none.
-#[derive(Clone, Copy)]
-pub struct Kind(pub Meaning);
-
-impl fmt::Display for Kind {
-    fn fmt<W: fmt::Write>(&self, f: &mut fmt::Formatter<W>) -> fmt::Result {
-        match self.0 {
-            Meaning::I(ns, nr) => write!(f, "I {} {}", ns.0, nr.0),
-            Meaning::Rr(nr) => write!(f, "RR - {}", nr.0),
-            Meaning::Rnr(nr) => write!(f, "RNR - {}", nr.0),
-            Meaning::Snrm => f.write_str("SNRM - -"),
-            Meaning::Disc => f.write_str("DISC - -"),
-            Meaning::Ua => f.write_str("UA - -"),
-            Meaning::Frmr => f.write_str("FRMR - -"),
+pub fn kind(to: Stdout, meaning: Meaning) {
+    match meaning {
+        Meaning::I(ns, nr) => {
+            say!(to; "I "; "{}", ns.0; " "; "{}", nr.0);
+        }
+        Meaning::Rr(nr) => {
+            say!(to; "RR - "; "{}", nr.0);
+        }
+        Meaning::Rnr(nr) => {
+            say!(to; "RNR - "; "{}", nr.0);
+        }
+        Meaning::Snrm => {
+            say!(to; "SNRM - -");
+        }
+        Meaning::Disc => {
+            say!(to; "DISC - -");
+        }
+        Meaning::Ua => {
+            say!(to; "UA - -");
+        }
+        Meaning::Frmr => {
+            say!(to; "FRMR - -");
         }
     }
+}
+
+// A refusal in the words of a listing.
+pub fn refused(to: Stdout, refusal: Refusal) {
+    say!(to; "refused "; "{}", refusal.number());
 }

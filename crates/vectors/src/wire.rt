@@ -1,5 +1,5 @@
 // Document 01's wire examples and published check words: each input with what the code makes of it.
-use crate::print::{Hex, Kind, say};
+use crate::print::{self, say};
 use bits::check;
 use frame::{Meaning, ReceiveCount, Refusal, SendCount, control, message};
 use std::io::Stdout;
@@ -28,7 +28,8 @@ fn check_words(to: Stdout) {
 }
 
 fn check_word(to: Stdout, bytes: &[u8]) {
-    say!(to; "{} {:04x}\n", Hex(bytes), check::check_word(bytes));
+    print::hex(to, bytes);
+    say!(to; " "; "{:04x}", check::check_word(bytes); "\n");
 }
 
 // Every byte that is known, and how many are not: P5 to P8 among them.
@@ -36,13 +37,15 @@ fn control_bytes(to: Stdout) {
     say!(to; "control byte\n");
     for byte in 0..=u8::MAX {
         if let Ok(meaning) = control::decode(byte) {
-            say!(to; "{byte:02x} {}\n", Kind(meaning));
+            say!(to; "{:02x}", byte; " ");
+            print::kind(to, meaning);
+            say!(to; "\n");
         }
     }
     let unknown = (0..=u8::MAX)
         .filter(|byte| control::decode(*byte).is_err())
         .count();
-    say!(to; "{unknown} refused 9\n");
+    say!(to; "{}", unknown; " refused 9\n");
 }
 
 // Information of 4 and of 254 bytes is refused, of 5 and of 253 taken; the first byte is the size plus 2.
@@ -56,7 +59,7 @@ fn messages(to: Stdout) {
 }
 
 fn checked(to: Stdout, message: &[u8]) {
-    say!(to; "{} ", message.len());
+    say!(to; "{}", message.len(); " ");
     taken(to, message::check(message));
 }
 
@@ -65,7 +68,7 @@ fn addresses(to: Stdout) {
     say!(to; "address\n");
     for address in [0, 1, 250, 251] {
         let mut out = [0; 311];
-        say!(to; "{address} ");
+        say!(to; "{}", address; " ");
         taken(
             to,
             writer::write(address, Meaning::Disc, b"", &mut out).map(|_| ()),
@@ -76,14 +79,15 @@ fn addresses(to: Stdout) {
 fn taken(to: Stdout, taken: Result<(), Refusal>) {
     match taken {
         Ok(()) => {
-            say!(to; "taken\n");
+            say!(to; "taken"; "\n");
         }
         Err(refusal) => refused(to, refusal),
     }
 }
 
 fn refused(to: Stdout, refusal: Refusal) {
-    say!(to; "{refusal}\n");
+    print::refused(to, refusal);
+    say!(to; "\n");
 }
 
 // Frames of each kind, the longest among them: what is written, and what is read back.
@@ -111,7 +115,9 @@ fn both_ways(to: Stdout, address: u8, meaning: Meaning, information: &[u8]) {
     let mut out = [0; 311];
     match writer::write(address, meaning, information, &mut out) {
         Ok(report) => {
-            say!(to; "{} {} {}\n", report.bits, report.zeros, Hex(&out));
+            say!(to; "{}", report.bits; " "; "{}", report.zeros; " ");
+            print::hex(to, &out);
+            say!(to; "\n");
             heard(to, &out, report.bits);
         }
         Err(refusal) => refused(to, refusal),
@@ -133,8 +139,11 @@ fn heard(to: Stdout, buffer: &[u8], bits: usize) {
     let mut information = [0; 253];
     match reader::read(buffer, bits, &mut information) {
         Ok(frame) => {
-            let information = Hex(&information);
-            say!(to; "{} {} {} {}\n", frame.address, Kind(frame.meaning), frame.size, information);
+            say!(to; "{}", frame.address; " ");
+            print::kind(to, frame.meaning);
+            say!(to; " "; "{}", frame.size; " ");
+            print::hex(to, &information);
+            say!(to; "\n");
         }
         Err(refusal) => refused(to, refusal),
     }
@@ -145,10 +154,12 @@ fn levels(to: Stdout) {
     say!(to; "nrzi\n");
     let mut out = [0xAA; 2];
     coded(to, nrzi::encode(true, &[0x7E], 8, &mut out));
-    say!(to; "{}\n", Hex(&out));
+    print::hex(to, &out);
+    say!(to; "\n");
     let mut back = [0xAA; 2];
     coded(to, nrzi::decode(true, &out, 11, &mut back));
-    say!(to; "{}\n", Hex(&back));
+    print::hex(to, &back);
+    say!(to; "\n");
 }
 
 fn coded(to: Stdout, coded: Result<bool, Refusal>) {
@@ -156,8 +167,6 @@ fn coded(to: Stdout, coded: Result<bool, Refusal>) {
         Ok(level) => {
             say!(to; "{} ", u8::from(level));
         }
-        Err(refusal) => {
-            say!(to; "{refusal}");
-        }
+        Err(refusal) => print::refused(to, refusal),
     }
 }
