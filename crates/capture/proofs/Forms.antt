@@ -64,7 +64,7 @@ record_end capture at h = let none : drop at capture ≡ [] = drop_of_length-le 
 
 -- the record at the front of what is left
 module _ (at : ℕ) (left : List ℕ) (some : 0 < length left) where
-  record_refused : (n : ℕ) → eqb n 0 ≡ false → n ≡ form_refusal left → record_of at left ≡ refuses n
+  pub record_refused : (n : ℕ) → eqb n 0 ≡ false → n ≡ form_refusal left → record_of at left ≡ refuses n
   unfolding record_of
   record_refused n z e = rw (ne_eqb (length left) 0 (λ y. omega arith), ← e, z)
 
@@ -72,7 +72,7 @@ module _ (at : ℕ) (left : List ℕ) (some : 0 < length left) where
   unfolding record_of
   record_silent e s k = rw (ne_eqb (length left) 0 (λ z. omega arith), eq-eqb (form_refusal left) 0 e, eq-eqb (kind_of left) 3 k, s)
 
-  record_framed : {size kind : ℕ} {held : Answer Frame} → form_refusal left ≡ 0 → size ≡ length_of left → kind ≡ kind_of left → (kind ≡ 3 → ⊥)
+  pub record_framed : {size kind : ℕ} {held : Answer Frame} → form_refusal left ≡ 0 → size ≡ length_of left → kind ≡ kind_of left → (kind ≡ 3 → ⊥)
       → held ≡ frame_in (take (size - 4) (drop 4 left)) → record_of at left ≡ framed kind (at + size) held
   unfolding record_of
   record_framed {size} {kind} e s k other j =

@@ -12,7 +12,7 @@ use Rattle.layout.specs.Layout.{number_at, mark_at, marks_wrong, side_at, side_h
 use Rattle.layout.specs.MasterLayout.{master_tail}
 
 -- the lengths of the parts of an end
-head_length : (s : Side) → length (side_head s) ≡ 20
+pub head_length : (s : Side) → length (side_head s) ≡ 20
 unfolding side_head
 head_length s = refl
 

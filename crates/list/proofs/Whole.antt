@@ -8,7 +8,7 @@ use Rattle.listing.proofs.Listings.{listing_long}
 use Rattle.list.specs.Streams.{Reads, Answers, Runs}
 
 -- one byte past the longest capture decides
-same_listing : (xs : List ℕ) (n : ℕ) → 65536 < n → listing (take n xs) ≡ listing xs
+pub same_listing : (xs : List ℕ) (n : ℕ) → 65536 < n → listing (take n xs) ≡ listing xs
 same_listing xs n h = go (nat_lt n (length xs)) refl
   where
     longer : n < length xs → 65536 < length (take n xs)

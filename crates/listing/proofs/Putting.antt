@@ -21,7 +21,7 @@ sets_append (x ∷ a) b old at =
     let e : at + suc (length a) ≡ suc at + length a = omega arith in
     rw e (sets_append a b (set old at x) (suc at))
 
-put_on : {a b old mid new : List ℕ} {at i j : ℕ} → Put a at old mid i → Put b i mid new j → Put (a ++ b) at old new j
+pub put_on : {a b old mid new : List ℕ} {at i j : ℕ} → Put a at old mid i → Put b i mid new j → Put (a ++ b) at old new j
 put_on {a} {b} {old} {mid} {new} {at} {i} {j} p q =
     record {
       bytes = q.bytes ∙ rw (p.bytes, p.place) (sets_append a b old at);
