@@ -9,7 +9,8 @@ use side::answer::{Change, News};
 use side::rule::Accepted;
 use side::{Side, rule};
 
-// What a response brings that is neither refused nor counted as silence: a value, like `side::rule::Hearing` and for its reason.
+// What a response brings that is neither refused nor counted as silence: a value, like `side::rule::Hearing` and for
+// its reason; the response and its inner steps are inlined for that reason too.
 #[derive(Clone, Copy)]
 pub struct Brought {
     pub news: News,
@@ -18,6 +19,7 @@ pub struct Brought {
 
 impl Master {
     // Takes the response to the waiting order: 30, 16, 9, 10, 12. A late one, or one from another address, counts as silence and brings nothing.
+    #[inline(always)]
     #[tactic(auto, unfolding(crate::specs::Response::response_of))]
     pub fn response(
         &mut self,
@@ -53,6 +55,7 @@ impl Master {
         address != self.address || self.limit <= age(tick, self.tick)
     }
 
+    #[inline(always)]
     #[tactic(auto, unfolding(crate::specs::Response::hears))]
     fn hears(self, meaning: Meaning, information: &[u8]) -> Brought
         ensures { result ≡ hears self meaning information.now }
@@ -64,6 +67,7 @@ impl Master {
         }
     }
 
+    #[inline(always)]
     #[tactic(auto, unfolding(crate::specs::Response::hear_disconnecting, crate::specs::Response::is_ua))]
     fn hear_disconnecting(self, meaning: Meaning) -> Brought
         ensures { result ≡ hear_disconnecting self meaning }
@@ -74,6 +78,7 @@ impl Master {
         }
     }
 
+    #[inline(always)]
     #[tactic(auto, unfolding(crate::specs::Response::hear_connecting, crate::specs::Response::is_ua))]
     fn hear_connecting(self, meaning: Meaning) -> Brought
         ensures { result ≡ hear_connecting self meaning }
@@ -84,6 +89,7 @@ impl Master {
         }
     }
 
+    #[inline(always)]
     #[tactic(auto, unfolding(crate::specs::Response::hear_linked))]
     fn hear_linked(self, meaning: Meaning, information: &[u8]) -> Brought
         ensures { result ≡ hear_linked self meaning information.now }
@@ -96,6 +102,7 @@ impl Master {
     }
 
     // RNR heard marks the peer busy; RR or I clears the mark.
+    #[inline(always)]
     #[tactic(auto, unfolding(crate::specs::Response::accepts))]
     fn accepts(self, meaning: Meaning, side: Side, accepted: Accepted) -> Brought
         ensures { result ≡ accepts self meaning side accepted.confirmed accepted.handed }
@@ -111,6 +118,7 @@ impl Master {
     }
 
     // UA to SNRM: both ends synchronise, and the peer is not busy.
+    #[inline(always)]
     fn links(self) -> Brought
         ensures { result ≡ links self }
     {
@@ -125,6 +133,7 @@ impl Master {
     }
 
     // Another mode, and the wait ended; all else stays.
+    #[inline(always)]
     fn turns(self, mode: Mode, link: Change) -> Brought
         ensures { result ≡ turns self mode link }
     {
@@ -138,16 +147,15 @@ impl Master {
         }
     }
 
-    fn goes(self, mode: Mode, busy: bool, side: Side) -> Master
+    #[inline(always)]
+    fn goes(mut self, mode: Mode, busy: bool, side: Side) -> Master
         ensures { result ≡ goes self mode busy side }
     {
-        Master {
-            side,
-            mode,
-            busy,
-            waiting: false,
-            ..self
-        }
+        self.side = side;
+        self.mode = mode;
+        self.busy = busy;
+        self.waiting = false;
+        self
     }
 }
 

@@ -47,27 +47,26 @@ impl Side {
     }
 
     // What a restart keeps: all but the counts.
-    pub fn restarted(self) -> Side
+    #[inline(always)]
+    pub fn restarted(mut self) -> Side
         ensures { result ≡ restarted self }
     {
-        Side {
-            ns: SendCount(0),
-            nr: ReceiveCount(0),
-            ..self
-        }
+        self.ns = SendCount(0);
+        self.nr = ReceiveCount(0);
+        self
     }
 
     // The mark for messages in doubt is cleared.
-    pub fn cleared(self) -> Side
+    #[inline(always)]
+    pub fn cleared(mut self) -> Side
         ensures { result ≡ cleared self }
     {
-        Side {
-            doubt: false,
-            ..self
-        }
+        self.doubt = false;
+        self
     }
 
     // Counts to zero; a message already sent is dropped and leaves its mark, an unsent one stays.
+    #[inline(always)]
     #[tactic(auto, unfolding(crate::specs::Side::synchronised))]
     pub fn synchronised(self) -> Side
         ensures { result ≡ synchronised self }
@@ -76,14 +75,13 @@ impl Side {
         if side.sent { side.dropped() } else { side }
     }
 
-    fn dropped(self) -> Side
+    #[inline(always)]
+    fn dropped(mut self) -> Side
         ensures { result ≡ dropped self }
     {
-        Side {
-            holds: 0,
-            sent: false,
-            doubt: true,
-            ..self
-        }
+        self.holds = 0;
+        self.sent = false;
+        self.doubt = true;
+        self
     }
 }

@@ -29,7 +29,8 @@ pub struct Accepted {
 }
 
 // What a frame brought, nothing where it is irrecoverable, and the side after it. The inner steps go from a value to a value, as the definitions do: an
-// irrecoverable frame leaves the side as it was handed in, and nothing has to be put back.
+// irrecoverable frame leaves the side as it was handed in, and nothing has to be put back. Each is part of its caller and changes the copy that it was
+// given: as a call, or with `..self`, it would copy a side once more.
 #[derive(Clone, Copy)]
 pub struct Hearing {
     pub heard: Option<Accepted>,
@@ -52,6 +53,7 @@ pub fn is_rnr(meaning: Meaning) -> bool
 
 impl Side {
     // The count rule. To the ends that go by it any other frame is as bad as an irrecoverable one.
+    #[inline(always)]
     #[tactic(auto, unfolding(crate::specs::Rule::count_rule))]
     pub fn hear(self, meaning: Meaning, information: &[u8]) -> Hearing
         ensures { result ≡ count_rule self meaning information.now }
@@ -77,6 +79,7 @@ impl Side {
         Ack::Astray
     }
 
+    #[inline(always)]
     fn hear_nr(self, nr: ReceiveCount) -> Hearing
         ensures { result ≡ on_nr self (ack self nr) }
     {
@@ -102,6 +105,7 @@ impl Side {
     }
 
     // Both counts are judged before anything is done: an irrecoverable frame confirms nothing.
+    #[inline(always)]
     fn hear_i(self, ns: SendCount, nr: ReceiveCount, information: &[u8]) -> Hearing
         ensures { result ≡ on_i self (ack self nr) information.now (seen self ns) }
     {
@@ -112,6 +116,7 @@ impl Side {
         }
     }
 
+    #[inline(always)]
     fn hear_new(self, nr: ReceiveCount, information: &[u8]) -> Hearing
         ensures { result ≡ on_new information.now (on_nr self (ack self nr)) }
     {
@@ -123,6 +128,7 @@ impl Side {
     }
 
     // A new message goes into the empty slot and Nr goes up; else it is not taken and Nr stays.
+    #[inline(always)]
     #[tactic(auto, using(crate::proofs::Parts::room_small), unfolding(crate::specs::Rule::hand_over))]
     fn hand_over(self, confirmed: usize, message: &[u8]) -> Hearing
         ensures { result ≡ hand_over message.now confirmed self }
@@ -140,6 +146,7 @@ impl Side {
         }
     }
 
+    #[inline(always)]
     fn not_taken(self, confirmed: usize) -> Hearing
         ensures { result ≡ not_taken confirmed self }
     {
@@ -152,47 +159,45 @@ impl Side {
         }
     }
 
-    fn advanced(self) -> Side
+    #[inline(always)]
+    fn advanced(mut self) -> Side
         ensures { result ≡ advanced self }
     {
-        Side {
-            nr: ReceiveCount(next(self.nr.0)),
-            ..self
-        }
+        self.nr = ReceiveCount(next(self.nr.0));
+        self
     }
 
-    fn filled_with(self, message: &[u8]) -> Side
+    #[inline(always)]
+    fn filled_with(mut self, message: &[u8]) -> Side
         requires { length message.now ≤ 253 }
         ensures { result ≡ filled_with message.now self }
     {
         let mut incoming = self.incoming;
         incoming[..message.len()].copy_from_slice(message);
-        Side {
-            incoming,
-            waits: message.len(),
-            ..self
-        }
+        self.incoming = incoming;
+        self.waits = message.len();
+        self
     }
 
     // The held message, if any, is released and Ns goes up.
-    fn confirmed(self) -> Hearing
+    #[inline(always)]
+    fn confirmed(mut self) -> Hearing
         ensures { result ≡ on_nr self Ack.Confirms }
     {
-        let side = Side {
-            ns: SendCount(next(self.ns.0)),
-            holds: 0,
-            sent: false,
-            ..self
-        };
+        let confirmed = self.holds;
+        self.ns = SendCount(next(self.ns.0));
+        self.holds = 0;
+        self.sent = false;
         Hearing {
             heard: Some(Accepted {
-                confirmed: self.holds,
+                confirmed,
                 handed: 0,
             }),
-            side,
+            side: self,
         }
     }
 
+    #[inline(always)]
     fn irrecoverable(self) -> Hearing
         ensures { result ≡ irrecoverable self }
     {

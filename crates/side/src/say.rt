@@ -15,6 +15,7 @@ pub struct Saying {
 
 impl Side {
     // I where the end may send it and a message is held; else RNR if the incoming slot is full; else RR.
+    #[inline(always)]
     #[tactic(auto, unfolding(crate::specs::Say::says, crate::specs::Say::says_held))]
     pub fn say(self, may: bool) -> Saying
         ensures { result ≡ says may self }
@@ -26,16 +27,19 @@ impl Side {
     }
 
     // The held message is marked sent as it is given out, arrived or lost.
-    fn informs(self) -> Saying
+    #[inline(always)]
+    fn informs(mut self) -> Saying
         ensures { result ≡ informs self }
     {
+        self.sent = true;
         Saying {
             meaning: Meaning::I(self.ns, self.nr),
             size: self.holds,
-            side: Side { sent: true, ..self },
+            side: self,
         }
     }
 
+    #[inline(always)]
     #[tactic(auto, unfolding(crate::specs::Say::status))]
     fn status(self) -> Saying
         ensures { result ≡ status self }

@@ -10,7 +10,8 @@ use side::answer::{Change, News};
 use side::rule::Accepted;
 use side::{Side, rule, slot};
 
-// What an order that is not refused does: a value, like `side::rule::Hearing` and for its reason.
+// What an order that is not refused does: a value, like `side::rule::Hearing` and for its reason; the step and its inner steps are inlined for
+// that reason too.
 #[derive(Clone, Copy)]
 pub struct Moved {
     pub line: Line,
@@ -20,6 +21,7 @@ pub struct Moved {
 
 impl Slave {
     // Answers an order, with the response's information in the lent buffer: 30, 11, 9, 10, 12, 19.
+    #[inline(always)]
     #[tactic(auto, using(crate::proofs::Keeps::step_fits, side::proofs::Parts::laid_fits), unfolding(crate::specs::Step::step_of))]
     pub fn step(
         &mut self,
@@ -54,6 +56,7 @@ impl Slave {
         other_refusal(self.address, address)
     }
 
+    #[inline(always)]
     #[tactic(auto, unfolding(crate::specs::Step::moved))]
     fn moved(self, meaning: Meaning, information: &[u8]) -> Moved
         ensures { result ≡ moved self meaning information.now }
@@ -65,6 +68,7 @@ impl Slave {
     }
 
     // Table 3's row NDM: only DISC and SNRM are answered by UA.
+    #[inline(always)]
     #[tactic(auto, unfolding(crate::specs::Step::in_ndm))]
     fn in_ndm(self, meaning: Meaning) -> Moved
         ensures { result ≡ in_ndm self meaning }
@@ -82,6 +86,7 @@ impl Slave {
     }
 
     // Table 3's row NRM: the count rule, and FRMR for all that it does not take.
+    #[inline(always)]
     #[tactic(auto, unfolding(crate::specs::Step::in_nrm))]
     fn in_nrm(self, meaning: Meaning, information: &[u8]) -> Moved
         ensures { result ≡ in_nrm self meaning information.now }
@@ -94,6 +99,7 @@ impl Slave {
     }
 
     // I if a message is held and the order was not RNR, else RNR or RR: judged after the order.
+    #[inline(always)]
     #[tactic(auto, unfolding(crate::specs::Step::responds))]
     fn responds(self, meaning: Meaning, side: Side, accepted: Accepted) -> Moved
         ensures { result ≡ responds self meaning side accepted.confirmed accepted.handed }
@@ -119,12 +125,14 @@ impl Slave {
     }
 
     // FRMR and NDM; all that the end holds stays.
+    #[inline(always)]
     fn rejects(self, link: Change) -> Moved
         ensures { result ≡ answers self self.side Mode.Ndm Meaning.Frmr link }
     {
         self.answers(self.side, Mode::Ndm, Meaning::Frmr, link)
     }
 
+    #[inline(always)]
     fn answers(self, side: Side, mode: Mode, meaning: Meaning, link: Change) -> Moved
         ensures { result ≡ answers self side mode meaning link }
     {
